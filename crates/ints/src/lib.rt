@@ -1,0 +1,1 @@
+// Linear facts over ℤ, for proofs: definitions and laws only, in specs/.
