@@ -18,6 +18,12 @@ pub enum Written {
     Full,
 }
 
+// How far a reader came that keeps what it read elsewhere: the position after it, or its refusal.
+pub enum Passed {
+    To(usize),
+    Refused(u32),
+}
+
 // "at most 4,294,967,295"
 const LARGEST: u64 = 4294967295;
 
