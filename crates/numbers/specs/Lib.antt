@@ -1,3 +1,4 @@
 pub mod Number
 pub mod Signed
 pub mod Reader
+pub mod Output

@@ -24,6 +24,12 @@ pub enum Passed {
     Refused(u32),
 }
 
+// The answer of a call that writes: the number of bytes written, or its refusal.
+pub enum Wrote {
+    Bytes(usize),
+    Refused(u32),
+}
+
 // "at most 4,294,967,295"
 const LARGEST: u64 = 4294967295;
 
