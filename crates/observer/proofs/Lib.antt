@@ -1,3 +1,4 @@
 -- Laws that the proofs of the code cite.
 pub mod Raising
 pub mod Moving
+pub mod Totalling
