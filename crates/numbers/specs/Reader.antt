@@ -1,5 +1,6 @@
 -- Readers: what they find at the front of the bytes left, or the number of the refusal.
 pub mod Joined
+pub mod Laws
 pub mod Inverse
 use Prim.Native.Nat.{ℕ, zero, suc, _-_}
 use mathlib.Core.List.{List, [], _∷_}
