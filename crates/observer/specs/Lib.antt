@@ -1,3 +1,5 @@
 pub mod Steps
 pub mod Totals
 pub mod Values
+pub mod Bytes
+pub mod Promises
