@@ -2,3 +2,4 @@ pub mod Number
 pub mod Signed
 pub mod Reader
 pub mod Output
+pub mod Walk
