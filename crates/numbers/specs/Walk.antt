@@ -1,5 +1,6 @@
 -- A walk over bytes that are measured or written: what it asks and what it leaves.
 pub mod Laws
+pub mod Answers
 use Prim.Native.Nat.{ℕ, _+_, _^_, _≤_, _<_}
 use mathlib.Core.Path.{_≡_}
 use mathlib.Core.List.{List}
