@@ -2,3 +2,8 @@
 pub mod Raising
 pub mod Moving
 pub mod Totalling
+pub mod StateReading
+pub mod StateRemainders
+pub mod StateRestoring
+pub mod StateWriting
+pub mod Freshness

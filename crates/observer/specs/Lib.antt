@@ -1,5 +1,6 @@
 pub mod Steps
 pub mod Totals
+pub mod Table
 pub mod Values
 pub mod Bytes
 pub mod Promises
