@@ -6,4 +6,7 @@ pub mod StateReading
 pub mod StateRemainders
 pub mod StateRestoring
 pub mod StateWriting
+pub mod Described
 pub mod Freshness
+pub mod Recording
+pub mod Recorded
