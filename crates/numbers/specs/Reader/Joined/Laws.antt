@@ -3,7 +3,7 @@ use Prim.Native.Nat.{ℕ, zero, suc, _<_}
 use mathlib.Core.Path.{_≡_, refl, sym, ap, _∙_}
 use mathlib.Core.List.{List, [], _∷_, _++_, map, flatMap, append-nil, append-assoc}
 use native.Mathlib.Omega.{arith}
-use lib.ListN.{length, getD, length-append}
+use lib.ListN.{length, getD, replicate, length-append}
 use Rattle.numbers.specs.Reader.Joined.{joined, listed, Each}
 
 -- ---- joined lists
@@ -30,6 +30,11 @@ flatMap-joined f zero g = refl
 flatMap-joined f (suc n) g = flatMap-++ f (joined n g) (g n) ∙ ap (λ (r : List _). r ++ flatMap f (g n)) (flatMap-joined f n g)
 
 -- ---- the elements at places
+
+pub getD-same : {A : Type 0} (n i : ℕ) (a : A) → getD (replicate n a) i a ≡ a
+getD-same zero i a = refl
+getD-same (suc n) zero a = refl
+getD-same (suc n) (suc i) a = getD-same n i a
 
 pub flatMap-listed : {A B : Type 0} (f : A → List B) (n : ℕ) (g : ℕ → A) → flatMap f (listed n g) ≡ joined n (λ i. f (g i))
 unfolding flatMap
