@@ -10,3 +10,6 @@ pub mod Described
 pub mod Freshness
 pub mod Recording
 pub mod Recorded
+pub mod JudgingSums
+pub mod JudgingHeaviest
+pub mod Judging
