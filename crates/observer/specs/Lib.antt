@@ -1,8 +1,11 @@
 pub mod Steps
 pub mod Totals
 pub mod Table
-pub mod Record
 pub mod Limits
-pub mod Values
+pub mod Weighing
 pub mod Bytes
+pub mod Outlined
+pub mod Values
+pub mod Lists
 pub mod Promises
+pub mod Examples
