@@ -13,7 +13,6 @@ pub mod StateRestoring
 pub mod StateWriting
 pub mod Copying
 pub mod Outlined
-pub mod OutlinedKnown
 pub mod OutlinedCalls
 pub mod OutlinedWeighing
 pub mod OutlinedJudging
