@@ -6,10 +6,10 @@ use Rattle.observer_cases.proofs.bytes.Statement.{statement}
 use Rattle.observer_cases.proofs.bytes.Tie as tie
 
 abbrev Inv-loop : tie.InvT-loop
-Inv-loop out count i₀ i = Unit
+Inv-loop written i₀ i = Unit
 
 abbrev μ-loop : tie.MeasureT-loop
-μ-loop out count i₀ i = length out - i
+μ-loop written i₀ i = length written - i
 
 loop-holds : tie.Need-loop-holds Inv-loop μ-loop
 loop-holds c = search needs
