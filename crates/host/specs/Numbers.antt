@@ -1,0 +1,41 @@
+-- The numbers that the host gets for answers (01, "Bytes": "the host's functions take only numbers and byte slices"; docs/DECISIONS.md, point 8).
+use Prim.Native.Nat.{ℕ, _<_, _^_}
+use lib.IntN.{ℤ, pos, negℤ}
+use Rattle.numbers.specs.declared.Wrote.{Wrote}
+use Rattle.numbers.specs.declared.Wrote.the-variants as Wrote
+use Rattle.net.specs.declared.Verdict.{Verdict}
+use Rattle.net.specs.declared.Verdict.the-variants.{Allow, Hold}
+use Rattle.net.specs.declared.Answer.{Answer}
+use Rattle.net.specs.declared.Answer.the-variants as Answer
+use Rattle.net.specs.declared.Known.{Known}
+use Rattle.net.specs.declared.Known.the-variants as Known
+
+-- "a refusal with its number": minus the number, which is from 1 to 13
+abbrev pub refusalNumber : ℕ → ℤ
+refusalNumber n = negℤ (pos n)
+
+-- "Calls that write .. answer a refusal or the number of bytes written"
+abbrev pub wroteNumber : Wrote → ℤ
+wroteNumber (Wrote.Bytes n) = pos n
+wroteNumber (Wrote.Refused n) = refusalNumber n
+
+-- the number of bytes is one that an i64 holds
+abbrev pub Countable : Wrote → Type 0
+Countable (Wrote.Bytes n) = n < 2 ^ 63
+Countable (Wrote.Refused n) = Unit
+
+-- "The answer is allow, or hold with the lowest such limit's number": limits are numbered from 1, so 0 is no limit's number
+abbrev pub verdictNumber : Verdict → ℤ
+verdictNumber Allow = pos 0
+verdictNumber (Hold limit) = pos limit
+
+-- "An answer is a refusal with its number, or a hold with its limit, or an allowance"
+abbrev pub answerNumber : Answer → ℤ
+answerNumber (Answer.Given verdict) = verdictNumber verdict
+answerNumber (Answer.Refused n) = refusalNumber n
+
+-- "The "known" report is a yes, a no or a refusal"
+abbrev pub knownNumber : Known → ℤ
+knownNumber Known.Yes = pos 1
+knownNumber Known.No = pos 0
+knownNumber (Known.Refused n) = refusalNumber n

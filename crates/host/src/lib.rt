@@ -1,0 +1,81 @@
+// The host's functions: the observer's calls on bytes as C calls them (include/yarrowbeam.h). An
+// answer is one number: what 01 has for it, or minus the number of a refusal.
+use net::Answer;
+use net::Known;
+use net::Verdict;
+use numbers::Wrote;
+ghost use mathlib.Core.Path.{_≡_};
+ghost use lib.ListN.{length};
+ghost use Rattle.numbers.specs.Output.{answer, left};
+ghost use Rattle.net.specs.Answers.{answerOf};
+ghost use Rattle.observer.specs.Bytes.{freshOutput, recordOutput, knownOutput, judgeOutput};
+ghost use Rattle.host.specs.Numbers.{Countable, refusalNumber, wroteNumber, answerNumber, knownNumber};
+
+// Writes the fresh state of the net that the bytes describe, where it fits the output: the number of
+// bytes. A refusal writes nothing.
+#[no_mangle]
+pub extern "C" fn fresh(d: &[u8], out: &mut [u8]) -> i64
+    ensures { λ r. ⌜ r ≡ wroteNumber (answer (length (now (out .entry))) (freshOutput (now (d .entry)))) ⌝ }
+    ensures { λ _. ⌜ now (out .exit) ≡ left (now (out .entry)) (freshOutput (now (d .entry))) ⌝ }
+{
+    let wrote = observer::fresh(d, out);
+    wrote_number(wrote)
+}
+
+// Writes the state after an event of the net that the first bytes describe, at the state that the
+// others are, where it fits the output: the number of bytes. A refusal writes nothing.
+#[no_mangle]
+pub extern "C" fn record<'a>(d: &'a [u8], s: &'a [u8], event: u32, out: &mut [u8]) -> i64
+    ensures { λ r. ⌜ r ≡ wroteNumber (answer (length (now (out .entry))) (recordOutput (now (d .entry)) (now (s .entry)) event)) ⌝ }
+    ensures { λ _. ⌜ now (out .exit) ≡ left (now (out .entry)) (recordOutput (now (d .entry)) (now (s .entry)) event) ⌝ }
+{
+    let wrote = observer::record(d, s, event, out);
+    wrote_number(wrote)
+}
+
+// Judges an event: 0 where it is allowed, the number of the limit that holds it where it is held.
+#[no_mangle]
+pub extern "C" fn judge<'a>(d: &'a [u8], s: &'a [u8], event: u32) -> i64
+    ensures { λ r. ⌜ r ≡ answerNumber (answerOf (judgeOutput (now (d .entry)) (now (s .entry)) event)) ⌝ }
+{
+    let answer = observer::judge(d, s, event);
+    match answer {
+        Answer::Given(verdict) => match verdict {
+            Verdict::Allow => 0,
+            Verdict::Hold(limit) => limit as i64,
+        },
+        Answer::Refused(refusal) => refusal_number(refusal),
+    }
+}
+
+// Does the observer know where all tokens are? 1 or 0.
+#[no_mangle]
+pub extern "C" fn known<'a>(d: &'a [u8], s: &'a [u8]) -> i64
+    ensures { λ r. ⌜ r ≡ knownNumber (knownOutput (now (d .entry)) (now (s .entry))) ⌝ }
+{
+    let known = observer::known(d, s);
+    match known {
+        Known::Yes => 1,
+        Known::No => 0,
+        Known::Refused(refusal) => refusal_number(refusal),
+    }
+}
+
+// What a call that writes answers, as the host gets it. A count is at most the length of the lent
+// output, which is below 2 ^ 63.
+fn wrote_number(wrote: Wrote) -> i64
+    requires { ⌜ Countable wrote ⌝ }
+    ensures { λ r. ⌜ r ≡ wroteNumber wrote ⌝ }
+{
+    match wrote {
+        Wrote::Bytes(count) => count as i64,
+        Wrote::Refused(refusal) => refusal_number(refusal),
+    }
+}
+
+// A refusal, as the host gets it.
+fn refusal_number(refusal: u32) -> i64
+    ensures { λ r. ⌜ r ≡ refusalNumber refusal ⌝ }
+{
+    -(refusal as i64)
+}
