@@ -1,0 +1,65 @@
+/* Yarrowbeam's observer, as a host calls it.
+ *
+ * A description (d) says what the net is, a saved state (s) what is known of it. Both are bytes; README.md shows them for
+ * one net. No call keeps anything: the host keeps the description and the state that the last accepted call wrote.
+ *
+ * Every call is total: it ends on every input, and bytes that are no description, no state or no event are refused.
+ * An answer below 0 is a refusal, minus its number:
+ *
+ *      1  a stored number of the description is not complete, not in its shortest form or too large
+ *      2  the description's edition is not 1
+ *      3  a size, a list's length, the groups or their depth are out of bounds
+ *      4  a mark, a place number or a value is out of range
+ *      5  members, arcs or terms break their order or the no-zero rules
+ *      6  a place does not appear exactly once
+ *      7  a group's own share is below 0, or not 0 though no place lies directly in the group
+ *      8  bytes are left after the description
+ *      9  the state is not well formed or does not fit the net
+ *     10  the event number is not one of the net's, which are counted from 1
+ *     11  the event is impossible
+ *     12  the event is possible, and some estimate after it would be above 65,535
+ *     13  the result does not fit the output
+ *
+ * The first that applies, in this order, is answered; a call skips those that do not concern it.
+ *
+ * What the host owes:
+ *   - a pointer is not null, also where the length is 0; all bytes below the length can be read (of `out`: and written);
+ *   - `out` overlaps neither d nor s. (d and s are only read.)
+ * A call writes nothing but the first bytes of `out`, as many as it answers; a refusal writes nothing.
+ *
+ * The names are those of the static library, target/staticlib/libhost.a, which `rt staticlib host` makes.
+ */
+#ifndef YARROWBEAM_H
+#define YARROWBEAM_H
+
+#include <stddef.h>
+#include <stdint.h>
+
+/* The lengths of the largest description and of the largest state: a buffer of so many bytes is enough for any. */
+#define YARROWBEAM_LARGEST_DESCRIPTION 24005
+#define YARROWBEAM_LARGEST_STATE 291
+
+#ifdef __cplusplus
+extern "C" {
+#endif
+
+/* Writes the fresh state of the net. Answers the number of bytes written, or a refusal: 1 to 8, 13. */
+int64_t fresh(const uint8_t *d, size_t d_length, uint8_t *out, size_t out_length);
+
+/* Writes the state after an event. Recording does not judge: a held event is recorded too.
+ * Answers the number of bytes written, or a refusal: 1 to 13. */
+int64_t record(const uint8_t *d, size_t d_length, const uint8_t *s, size_t s_length, uint32_t event,
+               uint8_t *out, size_t out_length);
+
+/* Judges an event. Answers 0 to allow it, the number of the lowest limit that holds it, counted from 1, or a refusal:
+ * 1 to 12. */
+int64_t judge(const uint8_t *d, size_t d_length, const uint8_t *s, size_t s_length, uint32_t event);
+
+/* Is it known where all tokens are? Answers 1 for yes, 0 for no, or a refusal: 1 to 9. */
+int64_t known(const uint8_t *d, size_t d_length, const uint8_t *s, size_t s_length);
+
+#ifdef __cplusplus
+}
+#endif
+
+#endif
