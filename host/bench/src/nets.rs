@@ -1,0 +1,217 @@
+//! The nets that are measured, each with a state and an event.
+
+use crate::plain;
+use reference::description::{Group, Limit, Net};
+use reference::State;
+
+/// Numbers without a pattern, the same in every run (xorshift).
+pub struct Numbers(pub u64);
+
+impl Numbers {
+    pub fn next(&mut self) -> u64 {
+        self.0 ^= self.0 << 13;
+        self.0 ^= self.0 >> 7;
+        self.0 ^= self.0 << 17;
+        self.0
+    }
+
+    pub fn within(&mut self, low: u32, high: u32) -> u32 {
+        low + (self.next() % u64::from(high - low + 1)) as u32
+    }
+}
+
+/// A description, a state that fits it, and an event that is possible there, raises every limit's sum and is allowed all the
+/// same: judging it has the most to do.
+pub struct Case {
+    pub name: &'static str,
+    pub d: Vec<u8>,
+    pub s: Vec<u8>,
+    pub event: u32,
+}
+
+/// How a net is made. Groups stand in chains as deep as said, with the places dealt out among them.
+struct Shape {
+    name: &'static str,
+    places: usize,
+    events: usize,
+    chains: usize,
+    depth: usize,
+    limits: usize,
+    /// Of how many consecutive places each event has an arc, and each limit a term.
+    arcs: usize,
+    terms: usize,
+    /// The count of an outermost group, and by how much that of a group inside is less.
+    count: u32,
+    share: u32,
+    takes: (u32, u32),
+    gives: (u32, u32),
+    weights: (u32, u32),
+    ceiling: i64,
+    /// The events 1 to this one have been recorded; the next one is asked for.
+    recorded: u32,
+}
+
+const MIDDLE: Shape = Shape {
+    name: "middle: 16 places, 16 events, 6 groups at depth 3, 4 limits",
+    places: 16,
+    events: 16,
+    chains: 2,
+    depth: 3,
+    limits: 4,
+    arcs: 4,
+    terms: 8,
+    count: 60,
+    share: 20,
+    takes: (0, 3),
+    gives: (1, 3),
+    weights: (1, 20),
+    ceiling: 100_000,
+    recorded: 3,
+};
+
+const LARGEST: Shape = Shape {
+    name: "largest: 64 places, 64 events, 32 groups at depth 8, 16 limits, dense",
+    places: 64,
+    events: 64,
+    chains: 4,
+    depth: 8,
+    limits: 16,
+    arcs: 64,
+    terms: 64,
+    count: 60_000,
+    share: 1_000,
+    takes: (128, 255),
+    gives: (128, 255),
+    weights: (65, 1_000),
+    ceiling: 1_000_000_000,
+    recorded: 3,
+};
+
+const ONE_BYTE: Shape = Shape {
+    name: "the same, numbers of one byte (ceilings aside)",
+    count: 120,
+    share: 10,
+    takes: (0, 2),
+    gives: (1, 127),
+    weights: (1, 63),
+    ..LARGEST
+};
+
+fn net(shape: &Shape) -> Net {
+    let mut numbers = Numbers(0x9E37_79B9_7F4A_7C15);
+    let groups = shape.chains * shape.depth;
+    let mut net = Net {
+        homes: (0..shape.places).map(|p| 1 + p % groups).collect(),
+        groups: (0..groups)
+            .map(|g| Group {
+                around: if g % shape.depth == 0 { 0 } else { g },
+                count: shape.count - shape.share * (g % shape.depth) as u32,
+            })
+            .collect(),
+        takes: Vec::new(),
+        gives: Vec::new(),
+        limits: Vec::new(),
+    };
+    for e in 0..shape.events {
+        let (mut takes, mut gives) = (vec![0; shape.places], vec![0; shape.places]);
+        for i in 0..shape.arcs {
+            let p = (e + i) % shape.places;
+            takes[p] = numbers.within(shape.takes.0, shape.takes.1);
+            gives[p] = numbers.within(shape.gives.0, shape.gives.1);
+        }
+        net.takes.push(takes);
+        net.gives.push(gives);
+    }
+    let asked = shape.recorded as usize;
+    for _ in 0..shape.limits {
+        let mut weights = vec![0i64; shape.places];
+        for i in 0..shape.terms {
+            let weight = i64::from(numbers.within(shape.weights.0, shape.weights.1));
+            weights[(asked + i) % shape.places] = if numbers.next() % 2 == 0 { weight } else { -weight };
+        }
+        let change: i64 =
+            (0..shape.places).map(|p| weights[p] * (i64::from(net.gives[asked][p]) - i64::from(net.takes[asked][p]))).sum();
+        assert!(change != 0);
+        if change < 0 {
+            weights.iter_mut().for_each(|weight| *weight = -*weight);
+        }
+        net.limits.push(Limit { ceiling: shape.ceiling, weights });
+    }
+    net
+}
+
+/// The state after the events have been recorded in turn, from fresh.
+fn state(d: &[u8], events: &[u32]) -> Vec<u8> {
+    let mut s = vec![0; 291];
+    let size = plain::fresh(d, &mut s);
+    s.truncate(usize::try_from(size).unwrap());
+    for &event in events {
+        let mut after = vec![0; 291];
+        let size = plain::record(d, &s, event, &mut after);
+        after.truncate(usize::try_from(size).unwrap());
+        s = after;
+    }
+    s
+}
+
+fn case(shape: &Shape) -> Case {
+    let d = reference::write_description(&net(shape));
+    let recorded: Vec<u32> = (1..=shape.recorded).collect();
+    Case { name: shape.name, s: state(&d, &recorded), d, event: shape.recorded + 1 }
+}
+
+/// A small net without a pattern, with loose places, uneven nesting and low ceilings, and a state that fits it; for comparing.
+pub fn small(numbers: &mut Numbers) -> (Vec<u8>, Vec<u8>) {
+    let places = numbers.within(1, 6) as usize;
+    let mut groups: Vec<Group> = Vec::new();
+    for _ in 0..numbers.within(0, 5) {
+        // The group around is the one before, or one around that, or none.
+        let mut around = groups.len();
+        while around != 0 && numbers.next() % 2 == 0 {
+            around = groups[around - 1].around;
+        }
+        groups.push(Group { around, count: 0 });
+    }
+    let homes: Vec<usize> = (0..places).map(|_| numbers.within(0, groups.len() as u32) as usize).collect();
+    let mut gathered = |high: u32| {
+        let mut whole: Vec<u32> =
+            (1..=groups.len()).map(|g| if homes.contains(&g) { numbers.within(0, high) } else { 0 }).collect();
+        for g in (1..=groups.len()).rev().filter(|&g| groups[g - 1].around != 0) {
+            whole[groups[g - 1].around - 1] += whole[g - 1];
+        }
+        whole
+    };
+    let (counts, unplaced) = (gathered(3), gathered(3));
+    groups.iter_mut().zip(counts).for_each(|(group, count)| group.count = count);
+    let mut row = |high: u32| -> Vec<u32> {
+        (0..places).map(|_| if numbers.next() % 2 == 0 { 0 } else { numbers.within(0, high) }).collect()
+    };
+    let rows: Vec<_> = (0..3).map(|_| (row(2), row(2))).collect();
+    let mut estimates = row(3);
+    let limits = (0..3)
+        .map(|_| Limit {
+            weights: (0..places).map(|_| i64::from(numbers.within(0, 6)) - 3).collect(),
+            ceiling: i64::from(numbers.within(0, 30)) - 10,
+        })
+        .collect();
+    if numbers.next() % 4 == 0 {
+        estimates[0] = 65_535;
+    }
+    let (takes, gives) = rows.into_iter().unzip();
+    let net = Net { homes, groups, takes, gives, limits };
+    (reference::write_description(&net), reference::write_state(&State { estimates, unplaced }))
+}
+
+pub fn all() -> Vec<Case> {
+    let pool = [
+        0x01, 0x03, 0x03, 0x01, 0x01, 0x01, 0x03, 0x03, 0x00, 0x01, 0x00, 0x02, 0x00, 0x03, 0x02, 0x01, 0x01, 0x00, 0x02, 0x00,
+        0x01, 0x02, 0x02, 0x01, 0x00, 0x03, 0x00, 0x01, 0x02, 0x01, 0x00, 0x01, 0x03, 0x01, 0x00, 0x04, 0x01, 0x03, 0x02,
+    ];
+    let mut all = vec![Case { name: "the pool of three", s: state(&pool, &[1, 1]), d: pool.to_vec(), event: 2 }];
+    all.extend([&MIDDLE, &LARGEST, &ONE_BYTE].map(case));
+    assert_eq!(all[2].d.len(), 24_005, "no description is larger");
+    for case in &all {
+        assert_eq!(plain::judge(&case.d, &case.s, case.event), 0, "{}: every limit is weighed", case.name);
+    }
+    all
+}
