@@ -1,4 +1,5 @@
 -- The numbers that the host gets for answers (01, "Bytes": "the host's functions take only numbers and byte slices"; docs/DECISIONS.md, point 8).
+pub mod Laws
 use Prim.Native.Nat.{ℕ, _<_, _^_}
 use lib.IntN.{ℤ, pos, negℤ}
 use Rattle.numbers.specs.declared.Wrote.{Wrote}
