@@ -21,21 +21,15 @@ use Rattle.net.specs.Check.{shared, shareFits, hasPlace}
 use Rattle.members.specs.Members.{place, innerGroups, members, memberList, group, outermost}
 use Rattle.rows.specs.Rows.{entries, row, risingPlace, filled, arc, event, signedWithin, term, limit}
 use Rattle.description.specs.Grammar.{head, limitsToEnd, parts}
+use Rattle.description.specs.Examples.{poolBytes}
 use Rattle.states.specs.States.{value, values, saved, stateFrom, state}
 use Rattle.states.specs.States.Writing.{valuesBytes, stateBytes}
 use Rattle.observer.specs.Bytes.{freshOutput, recordOutput, judgeOutput, knownOutput}
 use Rattle.observer.specs.Lists.{begin, call, sessionFrom, session, host}
 
--- "Three places in one group of 3; event 1 moves a token from place 1 to 2, event 2 from 2 to 3, event 3 from 3 to 1; limit 1 allows two
--- in place 3."
-unfoldable pub pool : List ℕ
-pool =
-    0x01 ∷ 0x03 ∷ 0x03 ∷ 0x01 ∷ 0x01 ∷ 0x01 ∷ 0x03 ∷ 0x03 ∷ 0x00 ∷ 0x01 ∷ 0x00 ∷ 0x02 ∷ 0x00 ∷ 0x03 ∷ 0x02 ∷ 0x01 ∷ 0x01 ∷ 0x00 ∷ 0x02 ∷ 0x00
-    ∷ 0x01 ∷ 0x02 ∷ 0x02 ∷ 0x01 ∷ 0x00 ∷ 0x03 ∷ 0x00 ∷ 0x01 ∷ 0x02 ∷ 0x01 ∷ 0x00 ∷ 0x01 ∷ 0x03 ∷ 0x01 ∷ 0x00 ∷ 0x04 ∷ 0x01 ∷ 0x03 ∷ 0x02 ∷ []
-
 -- the state's bytes after these events are recorded, one after the other; each state takes seven bytes
 abbrev pub after : List ℕ → List ℕ
-after numbers = host pool (map (λ n. recording n 7) numbers) .state
+after numbers = host poolBytes (map (λ n. recording n 7) numbers) .state
 
 -- ---- cases
 
@@ -65,15 +59,15 @@ cases =
     ∷ bytes (form 65535) is bytes (0xFF ∷ 0xFF ∷ 0x03 ∷ [])
     ∷ bytes (form (stored (negsuc 0))) is bytes (0x01 ∷ [])
     ∷ read (number (0x80 ∷ 0x00 ∷ [])) is read (no 1)
-    ∷ judged (judgeOutput pool (after []) 2) is judged (given (hold 1))
-    ∷ judged (judgeOutput pool (after []) 3) is judged (given allow)
-    ∷ judged (judgeOutput pool (after (1 ∷ [])) 2) is judged (given (hold 1))
-    ∷ judged (judgeOutput pool (after (1 ∷ 1 ∷ [])) 2) is judged (given allow)
-    ∷ known-and-judged (knownOutput pool (after (1 ∷ 1 ∷ 1 ∷ []))) (judgeOutput pool (after (1 ∷ 1 ∷ 1 ∷ [])) 1) is known-and-judged Yes (refused 11)
+    ∷ judged (judgeOutput poolBytes (after []) 2) is judged (given (hold 1))
+    ∷ judged (judgeOutput poolBytes (after []) 3) is judged (given allow)
+    ∷ judged (judgeOutput poolBytes (after (1 ∷ [])) 2) is judged (given (hold 1))
+    ∷ judged (judgeOutput poolBytes (after (1 ∷ 1 ∷ [])) 2) is judged (given allow)
+    ∷ known-and-judged (knownOutput poolBytes (after (1 ∷ 1 ∷ 1 ∷ []))) (judgeOutput poolBytes (after (1 ∷ 1 ∷ 1 ∷ [])) 1) is known-and-judged Yes (refused 11)
     ∷ []
 
 pub cases-hold : map computed cases ≡ map expected cases
-unfolding cases pool form groups stored number Stored.number Stored.front Stored.before Stored.small many end signed
+unfolding cases poolBytes form groups stored number Stored.number Stored.front Stored.before Stored.small many end signed
     freshOutput recordOutput judgeOutput knownOutput session sessionFrom begin call
     place innerGroups members memberList group outermost entries row risingPlace filled arc event signedWithin term limit head limitsToEnd parts
     shared shareFits hasPlace value values saved stateFrom state valuesBytes stateBytes joined
