@@ -1,0 +1,88 @@
+//! Yarrowbeam's proved observer, for Rust: the functions of `include/yarrowbeam.h` on slices.
+//!
+//! A description says what the net is, a saved state what is known of it. Both are bytes; README.md shows them for one net.
+//! No call keeps anything: the caller keeps the description and the state that the last accepted call wrote.
+//!
+//! Every call ends on every input, and refuses bytes that are no description, no state or no event. A call writes nothing but
+//! the first bytes of `out`, as many as it answers; a refusal writes nothing.
+//!
+//! The pool of three: three places in one group of 3, events that move a token from place 1 to 2, 2 to 3 and 3 to 1, and a
+//! limit that allows two in place 3.
+//!
+//! ```
+//! use yarrowbeam::{fresh, judge, known, record, Refusal, Verdict, LARGEST_STATE};
+//!
+//! let pool = [
+//!     0x01, 0x03, 0x03, 0x01, 0x01, 0x01, 0x03, 0x03, 0x00, 0x01, 0x00, 0x02, 0x00, 0x03, 0x02, 0x01, 0x01, 0x00, 0x02, 0x00,
+//!     0x01, 0x02, 0x02, 0x01, 0x00, 0x03, 0x00, 0x01, 0x02, 0x01, 0x00, 0x01, 0x03, 0x01, 0x00, 0x04, 0x01, 0x03, 0x02,
+//! ];
+//! let mut state = [0; LARGEST_STATE];
+//! let mut length = fresh(&pool, &mut state)?;
+//! assert_eq!(judge(&pool, &state[..length], 2), Ok(Verdict::Hold(1)));
+//!
+//! for _ in 0..3 {
+//!     let mut after = [0; LARGEST_STATE];
+//!     length = record(&pool, &state[..length], 1, &mut after)?;
+//!     state = after;
+//! }
+//! assert_eq!(known(&pool, &state[..length]), Ok(true));
+//! assert_eq!(judge(&pool, &state[..length], 2), Ok(Verdict::Allow));
+//! assert_eq!(judge(&pool, &state[..length], 1), Err(Refusal::Impossible));
+//! # Ok::<(), Refusal>(())
+//! ```
+
+#![warn(missing_docs)]
+
+mod library;
+mod refusal;
+
+pub use refusal::Refusal;
+
+/// The length of the largest description.
+pub const LARGEST_DESCRIPTION: usize = 24_005;
+
+/// The length of the largest state: an output of so many bytes is enough for any.
+pub const LARGEST_STATE: usize = 291;
+
+/// What judging says of an event.
+#[derive(Clone, Copy, Debug, PartialEq, Eq, Hash)]
+pub enum Verdict {
+    /// No limit holds it.
+    Allow,
+    /// The lowest limit that holds it has this number, counted from 1.
+    Hold(u32),
+}
+
+/// Writes the fresh state of the net. Answers the number of bytes written, or refusal 1 to 8 or 13.
+pub fn fresh(description: &[u8], out: &mut [u8]) -> Result<usize, Refusal> {
+    written(library::fresh(description, out))
+}
+
+/// Writes the state after an event, counted from 1. Recording does not judge: a held event is recorded too. Answers the number
+/// of bytes written, or refusal 1 to 13.
+pub fn record(description: &[u8], state: &[u8], event: u32, out: &mut [u8]) -> Result<usize, Refusal> {
+    written(library::record(description, state, event, out))
+}
+
+/// Judges an event, counted from 1. Answers the verdict, or refusal 1 to 12.
+pub fn judge(description: &[u8], state: &[u8], event: u32) -> Result<Verdict, Refusal> {
+    Ok(match accepted(library::judge(description, state, event))? {
+        0 => Verdict::Allow,
+        limit => Verdict::Hold(limit as u32),
+    })
+}
+
+/// Is it known where all tokens are? Or refusal 1 to 9.
+pub fn known(description: &[u8], state: &[u8]) -> Result<bool, Refusal> {
+    Ok(accepted(library::known(description, state))? == 1)
+}
+
+/// An answer from 0 up; one below 0 is a refusal, minus its number.
+fn accepted(answer: i64) -> Result<u64, Refusal> {
+    u64::try_from(answer).map_err(|_| Refusal::from_number(answer.unsigned_abs()))
+}
+
+/// A count of bytes, which is at most the length of the output and so a `usize`.
+fn written(answer: i64) -> Result<usize, Refusal> {
+    accepted(answer).map(|count| count as usize)
+}

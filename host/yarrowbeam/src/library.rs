@@ -1,0 +1,41 @@
+//! The functions of `include/yarrowbeam.h` on slices; their answers are still numbers.
+//!
+//! What they ask of a caller, slices give: a slice's pointer is not null, also where it is empty; all its bytes can be read, of
+//! a `&mut` one written too; and a `&mut` slice overlaps no other.
+
+mod c {
+    extern "C" {
+        pub fn fresh(d: *const u8, d_length: usize, out: *mut u8, out_length: usize) -> i64;
+        pub fn record(
+            d: *const u8,
+            d_length: usize,
+            s: *const u8,
+            s_length: usize,
+            event: u32,
+            out: *mut u8,
+            out_length: usize,
+        ) -> i64;
+        pub fn judge(d: *const u8, d_length: usize, s: *const u8, s_length: usize, event: u32) -> i64;
+        pub fn known(d: *const u8, d_length: usize, s: *const u8, s_length: usize) -> i64;
+    }
+}
+
+pub fn fresh(d: &[u8], out: &mut [u8]) -> i64 {
+    // SAFETY: both are slices, and `out`, being `&mut`, does not overlap `d`.
+    unsafe { c::fresh(d.as_ptr(), d.len(), out.as_mut_ptr(), out.len()) }
+}
+
+pub fn record(d: &[u8], s: &[u8], event: u32, out: &mut [u8]) -> i64 {
+    // SAFETY: all three are slices, and `out`, being `&mut`, overlaps neither `d` nor `s`; any event number may be asked for.
+    unsafe { c::record(d.as_ptr(), d.len(), s.as_ptr(), s.len(), event, out.as_mut_ptr(), out.len()) }
+}
+
+pub fn judge(d: &[u8], s: &[u8], event: u32) -> i64 {
+    // SAFETY: both are slices, which are only read; any event number may be asked for.
+    unsafe { c::judge(d.as_ptr(), d.len(), s.as_ptr(), s.len(), event) }
+}
+
+pub fn known(d: &[u8], s: &[u8]) -> i64 {
+    // SAFETY: both are slices, which are only read.
+    unsafe { c::known(d.as_ptr(), d.len(), s.as_ptr(), s.len()) }
+}

@@ -1,0 +1,90 @@
+use std::fmt;
+
+/// Why a call refuses. The first that applies, in this order, is answered; a call skips those that do not concern it.
+#[derive(Clone, Copy, Debug, PartialEq, Eq, PartialOrd, Ord, Hash)]
+pub enum Refusal {
+    /// A stored number of the description is not complete, not in its shortest form or too large.
+    Number = 1,
+    /// The description's edition is not 1.
+    Edition = 2,
+    /// A size, a list's length, the groups or their depth are out of bounds.
+    Size = 3,
+    /// A mark, a place number or a value is out of range.
+    Range = 4,
+    /// Members, arcs or terms break their order or the no-zero rules.
+    Order = 5,
+    /// A place does not appear exactly once.
+    Place = 6,
+    /// A group's own share is below 0, or not 0 though no place lies directly in the group.
+    Share = 7,
+    /// Bytes are left after the description.
+    BytesLeft = 8,
+    /// The state is not well formed or does not fit the net.
+    State = 9,
+    /// The event number is not one of the net's, which are counted from 1.
+    Event = 10,
+    /// The event is impossible.
+    Impossible = 11,
+    /// The event is possible, and some estimate after it would be above 65,535.
+    OverRange = 12,
+    /// The result does not fit the output.
+    Room = 13,
+}
+
+impl Refusal {
+    /// All refusals, in order.
+    pub const ALL: [Refusal; 13] = [
+        Refusal::Number,
+        Refusal::Edition,
+        Refusal::Size,
+        Refusal::Range,
+        Refusal::Order,
+        Refusal::Place,
+        Refusal::Share,
+        Refusal::BytesLeft,
+        Refusal::State,
+        Refusal::Event,
+        Refusal::Impossible,
+        Refusal::OverRange,
+        Refusal::Room,
+    ];
+
+    /// Its number, from 1 to 13.
+    pub fn number(self) -> u32 {
+        self as u32
+    }
+
+    /// The refusal with this number. The library is proved to answer no others than 1 to 13.
+    pub(crate) fn from_number(number: u64) -> Refusal {
+        match number {
+            1..=13 => Refusal::ALL[number as usize - 1],
+            _ => panic!("the library answered refusal {number}, which is not from 1 to 13"),
+        }
+    }
+
+    fn meaning(self) -> &'static str {
+        match self {
+            Refusal::Number => "a stored number of the description is not complete, not in its shortest form or too large",
+            Refusal::Edition => "the description's edition is not 1",
+            Refusal::Size => "a size, a list's length, the groups or their depth are out of bounds",
+            Refusal::Range => "a mark, a place number or a value is out of range",
+            Refusal::Order => "members, arcs or terms break their order or the no-zero rules",
+            Refusal::Place => "a place does not appear exactly once",
+            Refusal::Share => "a group's own share is below 0, or not 0 though no place lies directly in the group",
+            Refusal::BytesLeft => "bytes are left after the description",
+            Refusal::State => "the state is not well formed or does not fit the net",
+            Refusal::Event => "the event number is not one of the net's",
+            Refusal::Impossible => "the event is impossible",
+            Refusal::OverRange => "some estimate after the event would be above 65,535",
+            Refusal::Room => "the result does not fit the output",
+        }
+    }
+}
+
+impl fmt::Display for Refusal {
+    fn fmt(&self, f: &mut fmt::Formatter) -> fmt::Result {
+        write!(f, "refused {}: {}", self.number(), self.meaning())
+    }
+}
+
+impl std::error::Error for Refusal {}
