@@ -1,0 +1,197 @@
+//! Nets of all sizes, mostly small ones, and states that fit them.
+
+use crate::numbers::Numbers;
+use reference::description::{Group, Limit, Net};
+use reference::{judge, State, Verdict};
+
+/// The sizes of a net, and how its parts are chosen.
+struct Shape {
+    places: u32,
+    events: u32,
+    groups: u32,
+    depth: usize,
+    limits: u32,
+    /// How many of 8 places an event has an arc at, and a limit a term.
+    filled: u32,
+    /// Groups stand in chains as deep as can be, and every number has its longest form.
+    longest: bool,
+}
+
+/// The shape of the largest description.
+const LARGEST: Shape = Shape { places: 64, events: 64, groups: 32, depth: 8, limits: 16, filled: 8, longest: true };
+
+fn shape(numbers: &mut Numbers) -> Shape {
+    let most = match numbers.within(1, 1_000) {
+        1..=3 => return LARGEST,
+        4..=30 => LARGEST,
+        31..=150 => Shape { places: 16, events: 12, groups: 12, ..LARGEST },
+        _ => Shape { places: 6, events: 4, groups: 5, limits: 4, ..LARGEST },
+    };
+    let mut shape = Shape {
+        places: numbers.within(1, most.places),
+        events: numbers.within(1, most.events),
+        groups: numbers.within(0, most.groups),
+        depth: numbers.within(1, 8) as usize,
+        // Hold numbers up to 16 are for small nets too.
+        limits: if numbers.one_in(4) { 16 } else { numbers.within(0, most.limits) },
+        filled: numbers.within(1, 8),
+        longest: false,
+    };
+    // A size at its bound, or one past it.
+    match numbers.within(1, 400) {
+        1 => shape.places = numbers.within(64, 65),
+        2 => shape.events = numbers.within(64, 65),
+        3 => shape.groups = numbers.within(32, 33),
+        4 => shape.limits = numbers.within(16, 17),
+        5 => (shape.groups, shape.depth) = (numbers.within(9, 12), 9),
+        _ => (),
+    }
+    shape
+}
+
+/// A net; it is well formed unless its shape has a size past the bounds.
+pub fn net(numbers: &mut Numbers) -> Net {
+    let shape = shape(numbers);
+    let groups = groups(&shape, numbers);
+    let first = if groups.is_empty() || !shape.longest && numbers.one_in(2) { 0 } else { 1 };
+    let homes = (0..shape.places as usize)
+        .map(|p| if shape.longest { 1 + p % groups.len() } else { numbers.within(first, groups.len() as u32) as usize })
+        .collect();
+    let mut net = Net { homes, groups, takes: Vec::new(), gives: Vec::new(), limits: Vec::new() };
+    let counts = fitting(&net, shape.longest, numbers);
+    net.groups.iter_mut().zip(counts).for_each(|(group, count)| group.count = count);
+    for _ in 0..shape.events {
+        let high = if shape.longest { 255 } else { numbers.pick(&[1, 2, 2, 4, 4, 255]) };
+        let mut row = || -> Vec<u32> {
+            (0..shape.places)
+                .map(|_| match numbers.within(1, 8) {
+                    _ if shape.longest => numbers.within(128, 255),
+                    n if n <= shape.filled => numbers.within(0, high),
+                    _ => 0,
+                })
+                .collect()
+        };
+        net.takes.push(row());
+        net.gives.push(row());
+    }
+    // The limits before this one are quiet, so that each number is at times that of the lowest limit that holds.
+    let first = numbers.within(0, shape.limits);
+    for l in 0..shape.limits {
+        let limit = if l < first && !shape.longest { quiet(&net, &shape, numbers) } else { limit(&shape, numbers) };
+        net.limits.push(limit);
+    }
+    net
+}
+
+/// Groups in the order of their marks, without their counts.
+fn groups(shape: &Shape, numbers: &mut Numbers) -> Vec<Group> {
+    let mut groups: Vec<Group> = Vec::new();
+    let mut depths = vec![0];
+    let climb = numbers.pick(&[1, 2, 4, 1_000]);
+    for _ in 0..shape.groups {
+        // The group around is the one before, or one around that, or none.
+        let mut around = groups.len();
+        if shape.longest || shape.depth == 9 {
+            around = if depths[around] == shape.depth { 0 } else { around };
+        } else {
+            while around != 0 && (depths[around] == shape.depth || numbers.one_in(climb)) {
+                around = groups[around - 1].around;
+            }
+        }
+        depths.push(depths[around] + 1);
+        groups.push(Group { around, count: 0 });
+    }
+    groups
+}
+
+/// A number for each group, at most 65,535, whose own parts are at least 0, and 0 where no place lies directly in the group.
+fn fitting(net: &Net, longest: bool, numbers: &mut Numbers) -> Vec<u32> {
+    let mut whole = vec![0; net.groups.len()];
+    let high = numbers.pick(&[0, 1, 3, 3, 10, 300]);
+    for g in (1..=net.groups.len()).rev().filter(|g| net.homes.contains(g)) {
+        let around: Vec<usize> =
+            std::iter::successors(Some(g), |&g| Some(net.groups[g - 1].around).filter(|&g| g != 0)).collect();
+        let room = around.iter().map(|&g| 65_535 - whole[g - 1]).min().unwrap_or(0);
+        let own = match numbers.within(1, 40) {
+            _ if longest && whole[g - 1] == 0 => numbers.within(16_384, 50_000),
+            _ if longest => numbers.within(500, 1_500),
+            1 => room,
+            2 => numbers.within(0, room),
+            _ => numbers.within(0, high),
+        };
+        around.iter().for_each(|&g| whole[g - 1] += own.min(room));
+    }
+    whole
+}
+
+fn weight(longest: bool, numbers: &mut Numbers) -> i64 {
+    let high = if longest { 1_000 } else { numbers.pick(&[2, 2, 4, 4, 1_000]) };
+    let size = i64::from(numbers.within(if longest { 65 } else { 0 }, high));
+    if numbers.one_in(2) {
+        size
+    } else {
+        -size
+    }
+}
+
+fn weights(shape: &Shape, numbers: &mut Numbers) -> Vec<i64> {
+    (0..shape.places).map(|_| if numbers.within(1, 8) <= shape.filled { weight(shape.longest, numbers) } else { 0 }).collect()
+}
+
+fn limit(shape: &Shape, numbers: &mut Numbers) -> Limit {
+    let ceiling = match numbers.within(1, 20) {
+        1 => 1_000_000_000,
+        2 => -1_000_000_000,
+        _ if shape.longest => i64::from(numbers.within(200_000_000, 1_000_000_000)),
+        3 => i64::from(numbers.within(0, 2_000_000_000)) - 1_000_000_000,
+        4 | 5 => i64::from(numbers.within(0, 4_000)) - 2_000,
+        _ => i64::from(numbers.within(0, 30)) - 10,
+    };
+    Limit { ceiling, weights: weights(shape, numbers) }
+}
+
+/// A limit that seldom or never holds: its ceiling is the highest, and no loose place has a positive weight.
+fn quiet(net: &Net, shape: &Shape, numbers: &mut Numbers) -> Limit {
+    let mut weights = weights(shape, numbers);
+    weights.iter_mut().zip(&net.homes).filter(|(_, &home)| home == 0).for_each(|(weight, _)| *weight = -weight.abs());
+    Limit { ceiling: 1_000_000_000, weights }
+}
+
+/// A state that fits the net and that perhaps no history gave.
+pub fn state(net: &Net, numbers: &mut Numbers) -> State {
+    let longest = numbers.one_in(8);
+    let high = numbers.pick(&[0, 1, 3, 3, 10, 300]);
+    let estimates = (0..net.places())
+        .map(|_| match numbers.within(1, 40) {
+            _ if longest => numbers.within(16_384, 65_535),
+            1 => 65_535,
+            2 => numbers.within(65_200, 65_535),
+            3 => numbers.within(0, 65_535),
+            _ => numbers.within(0, high),
+        })
+        .collect();
+    State { estimates, unplaced: fitting(net, longest, numbers) }
+}
+
+/// Moves the ceiling of a limit to where it just holds an event at a state, or just does not: one less or more decides.
+pub fn tighten(net: &mut Net, state: &State, event: u32, numbers: &mut Numbers) {
+    let Some(l) = (!net.limits.is_empty()).then(|| numbers.below(net.limits.len())) else { return };
+    let mut alone = Net { limits: vec![net.limits[l].clone()], ..net.clone() };
+    let mut holds = |ceiling: i64| {
+        alone.limits[0].ceiling = ceiling;
+        judge(&alone, state, event) == Ok(Verdict::Hold(1))
+    };
+    let (mut low, mut high) = (-1_000_000_000, 1_000_000_000);
+    if !holds(low) || holds(high) {
+        return;
+    }
+    while high - low > 1 {
+        let middle = (low + high) / 2;
+        if holds(middle) {
+            low = middle;
+        } else {
+            high = middle;
+        }
+    }
+    net.limits[l].ceiling = if numbers.one_in(2) { low } else { high };
+}
