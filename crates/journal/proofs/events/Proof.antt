@@ -1,0 +1,173 @@
+-- `journal::events` is safe and ends: a number that is read lies within what the buffer has. The measure is the number of turns that are left.
+use Prim.Native.Nat.{_≤_}
+use mathlib.Core.Path.{_≡_, refl, sym, _∙_}
+use native.Mathlib.Omega.{arith}
+use borrow.Author.Needs.{needs}
+use lib.ListN.{length, length-take, length-drop}
+use Rattle.numbers.specs.Number.Laws.{number-within}
+use Rattle.journal.proofs.Buffers.{Between}
+use Rattle.journal.proofs.events.Statement.{statement}
+use Rattle.journal.proofs.events.Tie as tie
+
+abbrev Inv-loop : tie.InvT-loop
+Inv-loop net space₀ start held out₀ observer₀ at₀ end₀ used₀ turns₀ space out observer at end used turns =
+    Between space₀ out₀ space out at end used
+
+abbrev μ-loop : tie.MeasureT-loop
+μ-loop net space₀ start held out₀ observer₀ at₀ end₀ used₀ turns₀ space out observer at end used turns = turns
+
+fresh-requires : tie.Need-fresh-requires Inv-loop μ-loop
+fresh-requires c κs = search needs
+
+loop-holds : tie.Need-loop-holds Inv-loop μ-loop
+loop-holds c =
+    let start = c .before .before .before .before in
+    record { ordered = start .pre .0; within = start .pre .1 .0; fits = omega arith; roomy = start .pre .1 .1; space-long = refl; out-long = refl }
+
+sub-turns : tie.Need-sub-turns Inv-loop μ-loop
+sub-turns c = search needs
+
+sub-read-number : tie.Need-sub-read-number Inv-loop μ-loop
+sub-read-number c = search needs
+
+part-read-number-start : tie.Need-part-read-number-start Inv-loop μ-loop
+part-read-number-start c = search needs
+
+part-read-number-end : tie.Need-part-read-number-end Inv-loop μ-loop
+part-read-number-end c = search needs
+
+read-number-requires : tie.Need-read-number-requires Inv-loop μ-loop
+read-number-requires c κs = search needs
+
+enum-known-read : tie.Need-enum-known-read Inv-loop μ-loop
+enum-known-read c = search needs
+
+judge-event-requires : tie.Need-judge-event-requires Inv-loop μ-loop
+judge-event-requires c κs = search needs
+
+recorded-requires : tie.Need-recorded-requires Inv-loop μ-loop
+recorded-requires c κs = search needs
+
+unplaced-requires : tie.Need-unplaced-requires Inv-loop μ-loop
+unplaced-requires c κs = search needs
+
+line-requires : tie.Need-line-requires Inv-loop μ-loop
+line-requires c κs = search needs
+
+loop-less : tie.Need-loop-less Inv-loop μ-loop
+loop-less c = search needs
+
+loop-again : tie.Need-loop-again Inv-loop μ-loop
+loop-again c =
+    let line = c .before .before in
+    let told = line .before .before .before .before .before .before .before .before .before in
+    let read = told .before .before .before in
+    let inside = simp (length-take, length-drop) at (number-within _ _ _ _ (sym (read .read-number .ensures) ∙ told .before .read .given .1) .1) in
+    let between = read .before .before .before .before .loop .inv in
+    record {
+      ordered = omega (arith, inside, between .within);
+      within = between .within;
+      fits = omega (arith, line .line .ensures, line .line .kept .0);
+      roomy = omega (arith, line .line .kept .0, between .roomy);
+      space-long = between .space-long;
+      out-long = omega (arith, line .line .kept .0, between .out-long);
+    }
+
+enum-told : tie.Need-enum-told Inv-loop μ-loop
+enum-told c = search needs
+
+flush-requires : tie.Need-flush-requires Inv-loop μ-loop
+flush-requires c κs = search needs
+
+sub-left : tie.Need-sub-left Inv-loop μ-loop
+sub-left c = search needs
+
+refill-requires : tie.Need-refill-requires Inv-loop μ-loop
+refill-requires c κs = search needs
+
+refuse-requires : tie.Need-refuse-requires Inv-loop μ-loop
+refuse-requires c κs = search needs
+
+same-length : tie.Need-same-length Inv-loop μ-loop
+same-length c = search needs
+
+same-length-2 : tie.Need-same-length-2 Inv-loop μ-loop
+same-length-2 c = search needs
+
+returns : tie.Need-returns Inv-loop μ-loop
+returns c = search needs
+
+same-length-3 : tie.Need-same-length-3 Inv-loop μ-loop
+same-length-3 c = search needs
+
+same-length-4 : tie.Need-same-length-4 Inv-loop μ-loop
+same-length-4 c = search needs
+
+returns-2 : tie.Need-returns-2 Inv-loop μ-loop
+returns-2 c = search needs
+
+add-end : tie.Need-add-end Inv-loop μ-loop
+add-end c = search needs
+
+loop-less-2 : tie.Need-loop-less-2 Inv-loop μ-loop
+loop-less-2 c = search needs
+
+loop-again-2 : tie.Need-loop-again-2 Inv-loop μ-loop
+loop-again-2 c =
+    let fill = c .before .before .before in
+    let between = fill .before .before .before .before .before .before .before .before .before .before .loop .inv in
+    record {
+      ordered = omega arith;
+      within = omega (arith, fill .refill .ensures .0, fill .refill .kept .0);
+      fits = omega arith;
+      roomy = between .roomy;
+      space-long = omega (arith, fill .refill .kept .0, between .space-long);
+      out-long = between .out-long;
+    }
+
+same-length-5 : tie.Need-same-length-5 Inv-loop μ-loop
+same-length-5 c = search needs
+
+same-length-6 : tie.Need-same-length-6 Inv-loop μ-loop
+same-length-6 c = search needs
+
+returns-3 : tie.Need-returns-3 Inv-loop μ-loop
+returns-3 c = search needs
+
+pub events-spec : {M : Type 1} → statement M
+events-spec =
+    tie.close
+    (tie.spec
+    Inv-loop
+    μ-loop
+    fresh-requires
+    loop-holds
+    sub-turns
+    sub-read-number
+    part-read-number-start
+    part-read-number-end
+    read-number-requires
+    enum-known-read
+    judge-event-requires
+    recorded-requires
+    unplaced-requires
+    line-requires
+    loop-less
+    loop-again
+    enum-told
+    flush-requires
+    sub-left
+    refill-requires
+    refuse-requires
+    same-length
+    same-length-2
+    returns
+    same-length-3
+    same-length-4
+    returns-2
+    add-end
+    loop-less-2
+    loop-again-2
+    same-length-5
+    same-length-6
+    returns-3)

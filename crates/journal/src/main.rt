@@ -1,0 +1,106 @@
+// The journal (01, "The pool of three"): a description after its length and then event numbers from
+// standard input; a line for each event to standard output. It keeps the net and one state, however
+// many events there are.
+mod input;
+mod lines;
+
+use input::Found;
+use net::Checked;
+use net::Net;
+use net::Observer;
+use numbers::Read;
+ghost use Prim.Native.Nat.{_≤_};
+ghost use lib.ListN.{length};
+ghost use Rattle.journal.specs.Buffers.{longestNumber, longestLine};
+
+fn main() {
+    // 32,768 bytes: more than the longest description has, 24,005, and its length before it
+    let mut space = [0u8; 32768];
+    let mut out = [0u8; 32768];
+    journal(&mut space, &mut out);
+}
+
+fn journal(space: &mut [u8], out: &mut [u8])
+    requires { ⌜ longestNumber ≤ length (now space) ⌝ }
+    requires { ⌜ longestLine ≤ length (now out) ⌝ }
+{
+    let found = input::find_description(space);
+    match found {
+        Found::Refused(refusal) => {
+            lines::refuse(refusal);
+        }
+        Found::At(start, end, held) => {
+            let read = description::read_description(&space[start..end]);
+            let checked = read.checked;
+            if let Checked::Refused(refusal) = checked {
+                lines::refuse(refusal);
+                return;
+            }
+            events(read.net, space, end, held, out);
+        }
+    }
+}
+
+// The events that stand from the position on, of which so many bytes are in the buffer. What was
+// written is handed on before each read: a line never waits for the next event.
+fn events(net: Net, space: &mut [u8], start: usize, held: usize, out: &mut [u8])
+    requires { ⌜ start ≤ held ⌝ }
+    requires { ⌜ held ≤ length (now space) ⌝ }
+    requires { ⌜ longestLine ≤ length (now out) ⌝ }
+{
+    // a net that was read meets no question, so this isn't refused
+    let fresh = Observer::fresh(net);
+    let mut observer = fresh.observer;
+    let mut at = start;
+    let mut end = held;
+    let mut used = 0;
+    // A proved loop has to end, and nothing says that the input does: so many turns no run uses up.
+    let mut turns = u64::MAX;
+    while 0 < turns {
+        turns -= 1;
+        let read = numbers::read_number(&space[0..end], at);
+        match read {
+            Read::Number(event, next) => {
+                let answer = observer::judge_event(net, observer, event);
+                let after = recorded(net, observer, event);
+                observer = after;
+                let unplaced = observer::unplaced(net, observer);
+                at = next;
+                used = lines::line(
+                    out,
+                    used,
+                    event,
+                    answer,
+                    net.places,
+                    &observer.estimates,
+                    net.groups,
+                    &unplaced.numbers,
+                );
+            }
+            Read::Nothing => {
+                lines::flush(out, used);
+                used = 0;
+                let left = end - at;
+                let more = input::refill(space, at, left);
+                if more == 0 {
+                    if 0 < left {
+                        lines::refuse(1);
+                    }
+                    return;
+                }
+                at = 0;
+                end = left + more;
+            }
+        }
+    }
+}
+
+// The observer after an event, a held one too, or the same where the event is refused.
+fn recorded(net: Net, observer: Observer, event: u32) -> Observer {
+    let observed = observer::record_event(net, observer, event);
+    let checked = observed.checked;
+    if let Checked::Refused(_) = checked {
+        return observer;
+    }
+    observed.observer
+}
