@@ -25,7 +25,7 @@ use Rattle.description.specs.Examples.{poolBytes}
 use Rattle.states.specs.States.{value, values, saved, stateFrom, state}
 use Rattle.states.specs.States.Writing.{valuesBytes, stateBytes}
 use Rattle.observer.specs.Bytes.{freshOutput, recordOutput, judgeOutput, knownOutput}
-use Rattle.observer.specs.Lists.{begin, call, sessionFrom, session, host}
+use Rattle.observer.specs.Lists.{begin, call, standingFrom, standing, host}
 
 -- the state's bytes after these events are recorded, one after the other; each state takes seven bytes
 abbrev pub after : List ℕ → List ℕ
@@ -68,7 +68,7 @@ cases =
 
 pub cases-hold : map computed cases ≡ map expected cases
 unfolding cases poolBytes form groups stored number Stored.number Stored.front Stored.before Stored.small many end signed
-    freshOutput recordOutput judgeOutput knownOutput session sessionFrom begin call
+    freshOutput recordOutput judgeOutput knownOutput standing standingFrom begin call
     place innerGroups members memberList group outermost entries row risingPlace filled arc event signedWithin term limit head limitsToEnd parts
     shared shareFits hasPlace value values saved stateFrom state valuesBytes stateBytes joined
     ask judgeAnswer lowest holds fresh share less inner possible raises raise own direct sum every next moved inRange change sumℤ heaviest heaviestPlace
