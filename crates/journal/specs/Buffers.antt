@@ -1,7 +1,14 @@
--- The buffers of the journal: what fits, and where the description stands.
-use Prim.Native.Nat.{ℕ, _≤_}
+-- The buffers of the journal: what fits, where the description stands, and what the bytes that were read tell.
+use Prim.Native.Nat.{ℕ, _+_, _≤_, _<_}
+use mathlib.Core.Path.{_≡_}
+use mathlib.Core.List.{List, _++_}
+use lib.ListN.{length}
+use Rattle.numbers.specs.declared.Read.the-variants as Read
+use Rattle.numbers.specs.Number.{numberAt}
 use Rattle.journal.specs.declared.input.Found.{Found}
 use Rattle.journal.specs.declared.input.Found.the-variants.{At, Refused}
+use Rattle.journal.specs.declared.input.Next.{Next}
+use Rattle.journal.specs.declared.input.Next.the-variants.{Number, IllFormed, Short}
 
 -- "groups of seven bits .. at most 4,294,967,295": no number has more bytes
 abbrev pub longestNumber : ℕ
@@ -16,3 +23,9 @@ longestLine = 1086
 abbrev pub Within : ℕ → Found → Type 0
 Within room (At start end held) = (start ≤ end) × (end ≤ held) × (held ≤ room)
 Within room (Refused n) = Unit
+
+-- what the bytes seen tell of the number at a position of the input, where the rest of it follows them
+abbrev pub Tells : List ℕ → ℕ → List ℕ → Next → Type 0
+Tells seen at rest (Number n next) = (next ≤ length seen) × (numberAt (seen ++ rest) at ≡ Read.Number n next)
+Tells seen at rest IllFormed = numberAt (seen ++ rest) at ≡ Read.Nothing
+Tells seen at rest Short = (numberAt seen at ≡ Read.Nothing) × (length seen < at + longestNumber)

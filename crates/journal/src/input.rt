@@ -3,9 +3,10 @@ use libc::STDIN_FILENO;
 use net::Checked;
 use numbers::Read;
 ghost use mathlib.Core.Path.{_≡_};
-ghost use Prim.Native.Nat.{_+_, _≤_};
+ghost use mathlib.Core.List.{List};
+ghost use Prim.Native.Nat.{ℕ, _+_, _≤_};
 ghost use lib.ListN.{length, take, drop};
-ghost use Rattle.journal.specs.Buffers.{longestNumber, Within};
+ghost use Rattle.journal.specs.Buffers.{longestNumber, Within, Tells};
 
 // No number has more bytes.
 const NUMBER: usize = 5;
@@ -16,13 +17,20 @@ pub enum Found {
     Refused(u32),
 }
 
+// A number and the position after it; no stored number; or more bytes are needed to tell.
+pub enum Next {
+    Number(u32, usize),
+    IllFormed,
+    Short,
+}
+
 // Reads the length of the description and all of the description.
 pub fn find_description(space: &mut [u8]) -> Found
     requires { ⌜ longestNumber ≤ length (now space) ⌝ }
     ensures { λ r. ⌜ Within (length (now (space .entry))) r ⌝ }
 {
     let held = fill(space, 0, NUMBER);
-    let Read::Number(length, start) = numbers::read_number(&space[0..held], 0) else {
+    let Next::Number(length, start) = next_number(&space[0..held], 0) else {
         return Found::Refused(1);
     };
     let length = length as usize;
@@ -81,17 +89,33 @@ fn skip(space: &mut [u8], count: usize) -> bool {
     true
 }
 
+// What the bytes that were read tell of the number at a position of the input, whatever follows
+// them.
+pub fn next_number(seen: &[u8], at: usize) -> Next
+    requires { ⌜ at ≤ length (now seen) ⌝ }
+    ensures { λ r. ⌜ ((rest : List ℕ) → Tells (now (seen .entry)) at rest r) ⌝ }
+{
+    let read = numbers::read_number(seen, at);
+    match read {
+        Read::Number(number, next) => Next::Number(number, next),
+        Read::Nothing => {
+            if seen.len() - at < NUMBER {
+                Next::Short
+            } else {
+                Next::IllFormed
+            }
+        }
+    }
+}
+
 // Moves the bytes that are left to the front and reads on after them. How many came: none where the
-// input ends, and none where those that are left are enough to tell that they are no number.
+// input ends.
 pub fn refill(space: &mut [u8], at: usize, left: usize) -> usize
     requires { ⌜ at + left ≤ length (now space) ⌝ }
     ensures { λ r. ⌜ left + r ≤ length (now (space .entry)) ⌝ }
     ensures { λ r. ⌜ take left (now (space .exit)) ≡ take left (drop at (now (space .entry))) ⌝ }
 {
     move_down(space, at, left);
-    if NUMBER <= left {
-        return 0;
-    }
     read_on(space, left)
 }
 

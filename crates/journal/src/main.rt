@@ -5,13 +5,16 @@ mod input;
 mod lines;
 
 use input::Found;
+use input::Next;
 use net::Checked;
 use net::Net;
 use net::Observer;
-use numbers::Read;
+ghost use mathlib.Core.Path.{_≡_};
 ghost use Prim.Native.Nat.{_≤_};
 ghost use lib.ListN.{length};
+ghost use Rattle.observer.specs.Values.{recordedObserver};
 ghost use Rattle.journal.specs.Buffers.{longestNumber, longestLine};
+ghost use Rattle.journal.specs.Events.{kept};
 
 fn main() {
     // 32,768 bytes: more than the longest description has, 24,005, and its length before it
@@ -58,14 +61,14 @@ fn events(net: Net, space: &mut [u8], start: usize, held: usize, out: &mut [u8])
     let mut turns = u64::MAX;
     while 0 < turns {
         turns -= 1;
-        let read = numbers::read_number(&space[0..end], at);
-        match read {
-            Read::Number(event, next) => {
+        let next = input::next_number(&space[0..end], at);
+        match next {
+            Next::Number(event, after) => {
                 let answer = observer::judge_event(net, observer, event);
-                let after = recorded(net, observer, event);
-                observer = after;
+                let next = recorded(net, observer, event);
+                observer = next;
                 let unplaced = observer::unplaced(net, observer);
-                at = next;
+                at = after;
                 used = lines::line(
                     out,
                     used,
@@ -77,7 +80,12 @@ fn events(net: Net, space: &mut [u8], start: usize, held: usize, out: &mut [u8])
                     &unplaced.numbers,
                 );
             }
-            Read::Nothing => {
+            Next::IllFormed => {
+                lines::flush(out, used);
+                lines::refuse(1);
+                return;
+            }
+            Next::Short => {
                 lines::flush(out, used);
                 used = 0;
                 let left = end - at;
@@ -96,7 +104,9 @@ fn events(net: Net, space: &mut [u8], start: usize, held: usize, out: &mut [u8])
 }
 
 // The observer after an event, a held one too, or the same where the event is refused.
-fn recorded(net: Net, observer: Observer, event: u32) -> Observer {
+fn recorded(net: Net, observer: Observer, event: u32) -> Observer
+    ensures { λ r. ⌜ r ≡ kept (recordedObserver net observer event .checked) (recordedObserver net observer event .observer) observer ⌝ }
+{
     let observed = observer::record_event(net, observer, event);
     let checked = observed.checked;
     if let Checked::Refused(_) = checked {

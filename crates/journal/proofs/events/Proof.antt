@@ -1,11 +1,10 @@
 -- `journal::events` is safe and ends: a number that is read lies within what the buffer has. The measure is the number of turns that are left.
-use Prim.Native.Nat.{_≤_}
-use mathlib.Core.Path.{_≡_, refl, sym, _∙_}
+use mathlib.Core.Path.{refl}
 use native.Mathlib.Omega.{arith}
 use borrow.Author.Needs.{needs}
-use lib.ListN.{length, length-take, length-drop}
-use Rattle.numbers.specs.Number.Laws.{number-within}
+use lib.ListN.{length-take, length-drop}
 use Rattle.journal.proofs.Buffers.{Between}
+use Rattle.journal.proofs.Reading.{told-within}
 use Rattle.journal.proofs.events.Statement.{statement}
 use Rattle.journal.proofs.events.Tie as tie
 
@@ -27,20 +26,20 @@ loop-holds c =
 sub-turns : tie.Need-sub-turns Inv-loop μ-loop
 sub-turns c = search needs
 
-sub-read-number : tie.Need-sub-read-number Inv-loop μ-loop
-sub-read-number c = search needs
+sub-next-number : tie.Need-sub-next-number Inv-loop μ-loop
+sub-next-number c = search needs
 
-part-read-number-start : tie.Need-part-read-number-start Inv-loop μ-loop
-part-read-number-start c = search needs
+part-next-number-start : tie.Need-part-next-number-start Inv-loop μ-loop
+part-next-number-start c = search needs
 
-part-read-number-end : tie.Need-part-read-number-end Inv-loop μ-loop
-part-read-number-end c = search needs
+part-next-number-end : tie.Need-part-next-number-end Inv-loop μ-loop
+part-next-number-end c = search needs
 
-read-number-requires : tie.Need-read-number-requires Inv-loop μ-loop
-read-number-requires c κs = search needs
+next-number-requires : tie.Need-next-number-requires Inv-loop μ-loop
+next-number-requires c κs = search needs
 
-enum-known-read : tie.Need-enum-known-read Inv-loop μ-loop
-enum-known-read c = search needs
+enum-known-next : tie.Need-enum-known-next Inv-loop μ-loop
+enum-known-next c = search needs
 
 judge-event-requires : tie.Need-judge-event-requires Inv-loop μ-loop
 judge-event-requires c κs = search needs
@@ -62,7 +61,7 @@ loop-again c =
     let line = c .before .before in
     let told = line .before .before .before .before .before .before .before .before .before in
     let read = told .before .before .before in
-    let inside = simp (length-take, length-drop) at (number-within _ _ _ _ (sym (read .read-number .ensures) ∙ told .before .read .given .1) .1) in
+    let inside = simp (length-take, length-drop) at (told-within _ _ _ _ (read .next-number .ensures) (told .before .next .given .1)) in
     let between = read .before .before .before .before .loop .inv in
     record {
       ordered = omega (arith, inside, between .within);
@@ -79,12 +78,6 @@ enum-told c = search needs
 flush-requires : tie.Need-flush-requires Inv-loop μ-loop
 flush-requires c κs = search needs
 
-sub-left : tie.Need-sub-left Inv-loop μ-loop
-sub-left c = search needs
-
-refill-requires : tie.Need-refill-requires Inv-loop μ-loop
-refill-requires c κs = search needs
-
 refuse-requires : tie.Need-refuse-requires Inv-loop μ-loop
 refuse-requires c κs = search needs
 
@@ -97,6 +90,21 @@ same-length-2 c = search needs
 returns : tie.Need-returns Inv-loop μ-loop
 returns c = search needs
 
+enum-told-2 : tie.Need-enum-told-2 Inv-loop μ-loop
+enum-told-2 c = search needs
+
+flush-requires-2 : tie.Need-flush-requires-2 Inv-loop μ-loop
+flush-requires-2 c κs = search needs
+
+sub-left : tie.Need-sub-left Inv-loop μ-loop
+sub-left c = search needs
+
+refill-requires : tie.Need-refill-requires Inv-loop μ-loop
+refill-requires c κs = search needs
+
+refuse-requires-2 : tie.Need-refuse-requires-2 Inv-loop μ-loop
+refuse-requires-2 c κs = search needs
+
 same-length-3 : tie.Need-same-length-3 Inv-loop μ-loop
 same-length-3 c = search needs
 
@@ -105,6 +113,15 @@ same-length-4 c = search needs
 
 returns-2 : tie.Need-returns-2 Inv-loop μ-loop
 returns-2 c = search needs
+
+same-length-5 : tie.Need-same-length-5 Inv-loop μ-loop
+same-length-5 c = search needs
+
+same-length-6 : tie.Need-same-length-6 Inv-loop μ-loop
+same-length-6 c = search needs
+
+returns-3 : tie.Need-returns-3 Inv-loop μ-loop
+returns-3 c = search needs
 
 add-end : tie.Need-add-end Inv-loop μ-loop
 add-end c = search needs
@@ -125,14 +142,14 @@ loop-again-2 c =
       out-long = between .out-long;
     }
 
-same-length-5 : tie.Need-same-length-5 Inv-loop μ-loop
-same-length-5 c = search needs
+same-length-7 : tie.Need-same-length-7 Inv-loop μ-loop
+same-length-7 c = search needs
 
-same-length-6 : tie.Need-same-length-6 Inv-loop μ-loop
-same-length-6 c = search needs
+same-length-8 : tie.Need-same-length-8 Inv-loop μ-loop
+same-length-8 c = search needs
 
-returns-3 : tie.Need-returns-3 Inv-loop μ-loop
-returns-3 c = search needs
+returns-4 : tie.Need-returns-4 Inv-loop μ-loop
+returns-4 c = search needs
 
 pub events-spec : {M : Type 1} → statement M
 events-spec =
@@ -143,11 +160,11 @@ events-spec =
     fresh-requires
     loop-holds
     sub-turns
-    sub-read-number
-    part-read-number-start
-    part-read-number-end
-    read-number-requires
-    enum-known-read
+    sub-next-number
+    part-next-number-start
+    part-next-number-end
+    next-number-requires
+    enum-known-next
     judge-event-requires
     recorded-requires
     unplaced-requires
@@ -156,18 +173,24 @@ events-spec =
     loop-again
     enum-told
     flush-requires
-    sub-left
-    refill-requires
     refuse-requires
     same-length
     same-length-2
     returns
+    enum-told-2
+    flush-requires-2
+    sub-left
+    refill-requires
+    refuse-requires-2
     same-length-3
     same-length-4
     returns-2
+    same-length-5
+    same-length-6
+    returns-3
     add-end
     loop-less-2
     loop-again-2
-    same-length-5
-    same-length-6
-    returns-3)
+    same-length-7
+    same-length-8
+    returns-4)

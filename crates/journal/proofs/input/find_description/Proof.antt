@@ -1,42 +1,36 @@
 -- `journal::input::find_description` meets its contract: the length is a number within what was read.
-use mathlib.Core.Path.{sym, _∙_}
 use Prim.Native.Nat.{_≤_}
 use native.Mathlib.Omega.{arith}
 use borrow.Author.Needs.{needs}
 use lib.ListN.{length-take, length-drop}
-use Rattle.numbers.specs.Number.Laws.{number-within}
+use Rattle.journal.proofs.Reading.{told-within}
 use Rattle.journal.proofs.input.find_description.Statement.{statement}
 use Rattle.journal.proofs.input.find_description.Tie as tie
 
-abbrev called : tie.After-known-told → tie.After-read-number
-called c = c .before .before .before
-
 abbrev filled : tie.After-known-told → tie.After-fill
-filled c = called c .before .before .before .before .before
+filled c = c .before .before .before .before .before .before .before .before
 
 start-within : (c : tie.After-known-told) → c .before .length .given .0 .1 .0 ≤ filled c .fill .result
-start-within c = omega (arith, simp (length-take, length-drop) at (number-within _ _ _ _ (sym (called c .read-number .ensures) ∙ c .before .length .given .1) .1))
+start-within c =
+    omega (arith, simp (length-take, length-drop) at (told-within _ _ _ _ (c .before .before .before .next-number .ensures) (c .before .length .given .1)))
 
 fill-requires : tie.Need-fill-requires
 fill-requires c κs = search needs
 
-sub-read-number : tie.Need-sub-read-number
-sub-read-number c = search needs
+sub-next-number : tie.Need-sub-next-number
+sub-next-number c = search needs
 
-part-read-number-start : tie.Need-part-read-number-start
-part-read-number-start c = search needs
+part-next-number-start : tie.Need-part-next-number-start
+part-next-number-start c = search needs
 
-part-read-number-end : tie.Need-part-read-number-end
-part-read-number-end c = search needs
+part-next-number-end : tie.Need-part-next-number-end
+part-next-number-end c = search needs
 
-read-number-requires : tie.Need-read-number-requires
-read-number-requires c κs = search needs
+next-number-requires : tie.Need-next-number-requires
+next-number-requires c κs = search needs
 
 enum-known-length : tie.Need-enum-known-length
 enum-known-length c = search needs
-
-enum-told : tie.Need-enum-told
-enum-told c = search needs
 
 same-length : tie.Need-same-length
 same-length c = search needs
@@ -90,12 +84,11 @@ find-description-spec =
     tie.close
     (tie.spec
     fill-requires
-    sub-read-number
-    part-read-number-start
-    part-read-number-end
-    read-number-requires
+    sub-next-number
+    part-next-number-start
+    part-next-number-end
+    next-number-requires
     enum-known-length
-    enum-told
     same-length
     returns
     cast-length

@@ -1,4 +1,4 @@
--- `journal::input::refill` meets its contract.
+-- `journal::input::refill` meets its contract: the read keeps the bytes that were moved.
 use mathlib.Core.Path.{_∙_}
 use native.Mathlib.Omega.{arith}
 use borrow.Author.Needs.{needs}
@@ -8,25 +8,17 @@ use Rattle.journal.proofs.input.refill.Tie as tie
 move-down-requires : tie.Need-move-down-requires
 move-down-requires c κs = search needs
 
+read-on-requires : tie.Need-read-on-requires
+read-on-requires c κs = search needs
+
 same-length : tie.Need-same-length
 same-length c = search needs
 
 returns : tie.Need-returns
-returns c = search needs
-
-read-on-requires : tie.Need-read-on-requires
-read-on-requires c κs = search needs
-
-same-length-2 : tie.Need-same-length-2
-same-length-2 c = search needs
-
-returns-2 : tie.Need-returns-2
-returns-2 c =
+returns c =
     let read = c .before .before in
-    let moved = read .before .before .before .before .before in
+    let moved = read .before .before .before .before in
     (omega (arith, read .read-on .ensures .0, moved .move-down .kept .0), read .read-on .ensures .1 ∙ moved .move-down .ensures)
 
 pub refill-spec : {M : Type 1} → statement M
-refill-spec =
-    tie.close
-    (tie.spec move-down-requires same-length returns read-on-requires same-length-2 returns-2)
+refill-spec = tie.close (tie.spec move-down-requires read-on-requires same-length returns)

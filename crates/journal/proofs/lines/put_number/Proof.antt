@@ -1,5 +1,4 @@
 -- `journal::lines::put_number` meets its contract: the digits are those of `io::decimal`.
-use mathlib.Core.Path.{sym, ap, _∙_}
 use native.Mathlib.Omega.{arith}
 use borrow.Author.Needs.{needs}
 use Rattle.journal.proofs.Buffers.{few-digits, spelled}

@@ -1,7 +1,6 @@
 -- `journal::lines::put_numbers` stays within the bytes. The measure is how many numbers are left.
 use Prim.Native.Nat.{_+_, _*_, _-_, _≤_}
 use mathlib.Core.Path.{_≡_}
-use native.Mathlib.Omega.{arith}
 use borrow.Author.Needs.{needs}
 use lib.ListN.{length}
 use Rattle.journal.proofs.lines.put_numbers.Statement.{statement}
