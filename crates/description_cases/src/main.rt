@@ -142,7 +142,7 @@ fn answer(d: &[u8]) {
     put(b" ");
     decimal(read.net.limits as u64);
     let mut out = io::large_buffer();
-    let wrote = description::write_description(read.net, &mut out);
+    let wrote = writing::write_description(read.net, &mut out);
     let Wrote::Bytes(count) = wrote else {
         put(b", not written back");
         return;
