@@ -2,7 +2,7 @@
 
 use crate::plain;
 use reference::description::{Group, Limit, Net};
-use reference::State;
+use reference::{State, POOL};
 
 /// Numbers without a pattern, the same in every run (xorshift).
 pub struct Numbers(pub u64);
@@ -203,11 +203,7 @@ pub fn small(numbers: &mut Numbers) -> (Vec<u8>, Vec<u8>) {
 }
 
 pub fn all() -> Vec<Case> {
-    let pool = [
-        0x01, 0x03, 0x03, 0x01, 0x01, 0x01, 0x03, 0x03, 0x00, 0x01, 0x00, 0x02, 0x00, 0x03, 0x02, 0x01, 0x01, 0x00, 0x02, 0x00,
-        0x01, 0x02, 0x02, 0x01, 0x00, 0x03, 0x00, 0x01, 0x02, 0x01, 0x00, 0x01, 0x03, 0x01, 0x00, 0x04, 0x01, 0x03, 0x02,
-    ];
-    let mut all = vec![Case { name: "the pool of three", s: state(&pool, &[1, 1]), d: pool.to_vec(), event: 2 }];
+    let mut all = vec![Case { name: "the pool of three", s: state(&POOL, &[1, 1]), d: POOL.to_vec(), event: 2 }];
     all.extend([&MIDDLE, &LARGEST, &ONE_BYTE].map(case));
     assert_eq!(all[2].d.len(), 24_005, "no description is larger");
     for case in &all {
