@@ -1,0 +1,3 @@
+-- What the walks share.
+pub mod Parts
+pub mod Lent
