@@ -1,3 +1,4 @@
 -- What the walks share.
 pub mod Parts
+pub mod Handed
 pub mod Lent
