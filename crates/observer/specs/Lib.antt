@@ -6,6 +6,3 @@ pub mod Weighing
 pub mod Bytes
 pub mod Outlined
 pub mod Values
-pub mod Lists
-pub mod Promises
-pub mod Examples

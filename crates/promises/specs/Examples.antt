@@ -24,8 +24,8 @@ use Rattle.description.specs.Grammar.{head, limitsToEnd, parts}
 use Rattle.description.specs.Examples.{poolBytes}
 use Rattle.states.specs.States.{value, values, saved, stateFrom, state}
 use Rattle.states.specs.States.Writing.{valuesBytes, stateBytes}
 use Rattle.observer.specs.Bytes.{freshOutput, recordOutput, judgeOutput, knownOutput}
-use Rattle.observer.specs.Lists.{begin, call, standingFrom, standing, host}
+use Rattle.promises.specs.Lists.{begin, call, standingFrom, standing, host}
 
 -- the state's bytes after these events are recorded, one after the other; each state takes seven bytes
 abbrev pub after : List ℕ → List ℕ

@@ -1,0 +1,6 @@
+pub mod Lists
+pub mod Bytes
+pub mod Refusals
+pub mod Values
+pub mod Promises
+pub mod Examples
