@@ -3,31 +3,21 @@ use Prim.Native.Nat.{ℕ, zero, suc, _+_, _-_, _*_, _^_, _≤_, _<_}
 use mathlib.Core.Path.{_≡_, refl, sym, ap, ap₂, _∙_}
 use mathlib.Core.List.{List, _∷_}
 use native.Mathlib.Nat.{mul-le-mul-right}
-use native.Mathlib.Numerals.{add-one}
 use native.Mathlib.Omega.{arith}
 use borrow.Author.Tests.{le-leb, lt-leb, ne-eqb}
 use mathlib.Core.Bool.{cond}
 use lib.ListN.{length, drop, getD, drop-of-length-le}
-use lib.Seq.{drop-cons}
 use lib.Dec.{eqb}
 use Rattle.numbers.specs.Number.{largest, Found, found, nothing, before, front, small, after, number, numberAt}
-use Rattle.numbers.specs.Number.Laws.{front-last, front-step, before-found}
+use Rattle.numbers.specs.Number.Laws.{front-last, front-step, before-found, front-next}
 use Rattle.numbers.specs.declared.Read.the-variants.{Number, Nothing}
 
 -- ---- at the first byte
 
-drop-next : (s : List ℕ) (i byte : ℕ) → i < length s → byte ≡ getD s i 0 → front (drop i s) ≡ front (byte ∷ drop (i + 1) s)
-drop-next s i byte h e = rw (e, drop-cons s i 0 h, add-one)
-
--- no byte
+-- there is none
 pub at-end : (s : List ℕ) (at : ℕ) → length s ≤ at → Nothing ≡ numberAt s at
 unfolding numberAt number small after front
 at-end s at h = rw (drop-of-length-le s h)
-
--- one group
-pub at-last : (s : List ℕ) (at byte : ℕ) → at < length s → byte ≡ getD s at 0 → byte < 128 → Number byte (at + 1) ≡ numberAt s at
-unfolding numberAt number small after
-at-last s at byte h e last = rw (drop-next s at byte h e, front-last byte (drop (at + 1) s) last, le-leb byte largest (omega arith))
 
 -- ---- at a later byte
 
@@ -83,7 +73,7 @@ reading-first s at byte h e low high = record {
   unit-small = omega arith;
   left =
       let one : at + 1 - at ≡ 1 = omega arith in
-      drop-next s at byte h e ∙ front-step byte (drop (at + 1) s) low high ∙ rw one (onto-first (byte - 128) (front (drop (at + 1) s)));
+      front-next s at byte h e ∙ front-step byte (drop (at + 1) s) low high ∙ rw one (onto-first (byte - 128) (front (drop (at + 1) s)));
 }
 
 -- the bytes end, and the number goes on
@@ -101,7 +91,7 @@ pub record Turn (s : List ℕ) (at next low unit byte : ℕ) : Type 0 where
 module _ {s : List ℕ} {at next low unit byte : ℕ} (t : Turn s at next low unit byte) where
   -- a last group
   last : byte < 128 → front (drop at s) ≡ onto (next - at) low unit (found byte 1)
-  last h = t .reading .left ∙ ap (onto (next - at) low unit) (drop-next s next byte (t .more) (t .is) ∙ front-last byte (drop (next + 1) s) h)
+  last h = t .reading .left ∙ ap (onto (next - at) low unit) (front-next s next byte (t .more) (t .is) ∙ front-last byte (drop (next + 1) s) h)
 
   pub last-zero : byte ≡ 0 → Nothing ≡ numberAt s at
   unfolding numberAt number onto small after
@@ -123,7 +113,7 @@ module _ {s : List ℕ} {at next low unit byte : ℕ} (t : Turn s at next low un
   more h =
       let count : next + 1 - at ≡ next - at + 1 = omega arith in
       t .reading .left
-      ∙ ap (onto (next - at) low unit) (drop-next s next byte (t .more) (t .is) ∙ front-step byte (drop (next + 1) s) h (t .below))
+      ∙ ap (onto (next - at) low unit) (front-next s next byte (t .more) (t .is) ∙ front-step byte (drop (next + 1) s) h (t .below))
       ∙ rw count (onto-more (next - at) low unit (byte - 128) (front (drop (next + 1) s)))
 
   pub more-large : 128 ≤ byte → 128 ^ 4 ≤ unit → Nothing ≡ numberAt s at

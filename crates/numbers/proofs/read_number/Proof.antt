@@ -2,7 +2,8 @@
 use native.Mathlib.Omega.{arith}
 use borrow.Author.Needs.{needs}
 use denote.Ref.{now}
-use Rattle.numbers.proofs.Reading.{at-end, at-last}
+use Rattle.numbers.specs.Number.Laws.{at-one}
+use Rattle.numbers.proofs.Reading.{at-end}
 use Rattle.numbers.proofs.read_number.Statement.{statement}
 use Rattle.numbers.proofs.read_number.Tie as tie
 
@@ -25,7 +26,7 @@ returns-2 : tie.Need-returns-2
 returns-2 c =
     let wide = c .before .wide in
     let args = c .before .before .before .before .before .args in
-    at-last (now (args .s)) (args .at) (wide .result) (omega arith) (wide .ensures .0) (omega arith)
+    at-one (now (args .s)) (args .at) (wide .result) (omega arith) (wide .ensures .0) (omega arith)
 
 read-groups-requires : tie.Need-read-groups-requires
 read-groups-requires c κs = search needs

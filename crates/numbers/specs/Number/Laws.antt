@@ -5,9 +5,11 @@ use mathlib.Core.List.{List, [], _∷_, _++_}
 use mathlib.Core.Bool.{cond, Bool, true, false}
 use mathlib.Core.Logic.{⊎-elim, _↔_, _⊎_, inl, inr}
 use native.Mathlib.Nat.{pow-suc, one-le-pow, zero-lt-suc}
+use native.Mathlib.Numerals.{add-one}
 use native.Mathlib.Omega.{arith}
 use borrow.Author.Tests.{lt-ltb, le-ltb, le-leb, ne-eqb, ltb-true, ltb-false, leb-true}
 use lib.ListN.{length, drop, getD, length-append, length-drop}
+use lib.Seq.{drop-cons}
 use lib.Dec.{ltb, leb}
 use Rattle.numbers.specs.Number.{largest, groups, form, Found, found, nothing, before, front, small, number, after, numberAt}
 use Rattle.numbers.specs.declared.Read.the-variants.{Number}
@@ -260,6 +262,29 @@ pub form-injective : (m n : ℕ) → m ≤ largest → n ≤ largest → form m 
 form-injective m n hm hn e = cc (read-write m [] hm, read-write n [] hn)
 
 -- ---- at a position
+
+pub front-next : (s : List ℕ) (i byte : ℕ) → i < length s → byte ≡ getD s i 0 → front (drop i s) ≡ front (byte ∷ drop (i + 1) s)
+front-next s i byte h e = rw (e, drop-cons s i 0 h, add-one)
+
+-- a number of one byte
+pub at-one : (s : List ℕ) (at byte : ℕ) → at < length s → byte ≡ getD s at 0 → byte < 128 → Number byte (at + 1) ≡ numberAt s at
+unfolding numberAt number small after
+at-one s at byte h e last = rw (front-next s at byte h e, front-last byte (drop (at + 1) s) last, le-leb byte largest (omega arith))
+
+-- a number of two bytes, of which the second is 1: the first is the number
+pub at-two : (s : List ℕ) (at byte : ℕ) → at + 1 < length s → byte ≡ getD s at 0 → 128 ≤ byte → byte < 256 → 1 ≡ getD s (at + 1) 0
+    → Number byte (at + 2) ≡ numberAt s at
+unfolding numberAt number small after
+at-two s at byte h e more below one =
+    rw (
+      front-next s at byte (omega arith) e,
+      front-step byte (drop (at + 1) s) more below,
+      front-next s (at + 1) 1 h one,
+      front-last 1 (drop (at + 1 + 1) s) (omega arith),
+      before-found (byte - 128) 1 1 (omega arith),
+      le-leb (byte - 128 + 128 * 1) largest (omega arith),
+    )
+    (ap₂ Number (omega arith) (omega arith))
 
 -- what is read takes at least one byte and lies within the bytes
 pub number-within : (s : List ℕ) (at n next : ℕ) → numberAt s at ≡ Number n next → (at < next) × (next ≤ length s)
