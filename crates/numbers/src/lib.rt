@@ -37,11 +37,11 @@ const LARGEST: u64 = 4294967295;
 // too large.
 const FIFTH_UNIT: u64 = 268435456;
 
-// How many bytes the number takes, told from its leading zeros; 0 takes one byte.
+// How many bytes the number takes: one below 128, else told from its leading zeros.
 pub fn number_length(number: u32) -> usize
     ensures { λ r. ⌜ r ≡ length (form number) ⌝ }
 {
-    if number == 0 {
+    if number < 128 {
         return 1;
     }
     ((38 - u32::leading_zeros(number)) / 7) as usize

@@ -27,7 +27,7 @@ length-from-zeros n positive below =
     omega (arith, form-length-is n k (omega arith) .1 within)
 
 returns : tie.Need-returns
-returns c = rw (c .if1 .taken, form-last 0 (omega arith))
+returns c = rw (form-last (c .before .args .number) (c .if1 .taken))
 
 sub-result : tie.Need-sub-result
 sub-result c = omega (arith, leading-le 32 (c .before .args .number))
