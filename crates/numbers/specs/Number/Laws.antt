@@ -263,6 +263,7 @@ form-injective m n hm hn e = cc (read-write m [] hm, read-write n [] hn)
 
 -- ---- at a position
 
+-- the byte there, and those after it
 pub front-next : (s : List ℕ) (i byte : ℕ) → i < length s → byte ≡ getD s i 0 → front (drop i s) ≡ front (byte ∷ drop (i + 1) s)
 front-next s i byte h e = rw (e, drop-cons s i 0 h, add-one)
 
