@@ -12,7 +12,7 @@ use net::Observer;
 ghost use mathlib.Core.Path.{_≡_};
 ghost use Prim.Native.Nat.{_≤_};
 ghost use lib.ListN.{length};
-ghost use Rattle.observer.specs.Values.{recordedObserver};
+ghost use Rattle.values.specs.Values.{recordedObserver};
 ghost use Rattle.journal.specs.Buffers.{longestNumber, longestLine};
 ghost use Rattle.journal.specs.Events.{kept};
 
@@ -64,10 +64,10 @@ fn events(net: Net, space: &mut [u8], start: usize, held: usize, out: &mut [u8])
         let next = input::next_number(&space[0..end], at);
         match next {
             Next::Number(event, after) => {
-                let answer = observer::judge_event(net, observer, event);
+                let answer = values::judge_event(net, observer, event);
                 let next = recorded(net, observer, event);
                 observer = next;
-                let unplaced = observer::unplaced(net, observer);
+                let unplaced = values::unplaced(net, observer);
                 at = after;
                 used = lines::line(
                     out,
@@ -107,7 +107,7 @@ fn events(net: Net, space: &mut [u8], start: usize, held: usize, out: &mut [u8])
 fn recorded(net: Net, observer: Observer, event: u32) -> Observer
     ensures { λ r. ⌜ r ≡ kept (recordedObserver net observer event .checked) (recordedObserver net observer event .observer) observer ⌝ }
 {
-    let observed = observer::record_event(net, observer, event);
+    let observed = values::record_event(net, observer, event);
     let checked = observed.checked;
     if let Checked::Refused(_) = checked {
         return observer;

@@ -1,23 +1,4 @@
 -- Laws that the proofs of the code cite.
-pub mod Raising
-pub mod Stepping
-pub mod Stepped
-pub mod Knowing
-pub mod Observing
-pub mod Valued
-pub mod Moving
-pub mod Totalling
-pub mod StateReading
-pub mod StateRemainders
-pub mod StateRestoring
-pub mod StateWriting
-pub mod Copying
 pub mod Outlined
 pub mod OutlinedCalls
-pub mod OutlinedWeighing
 pub mod OutlinedJudging
-pub mod JudgingSums
-pub mod JudgingHeaviest
-pub mod Judging
-pub mod Weighed
-pub mod ValuedJudging

@@ -142,7 +142,7 @@ fn call_values<'a>(d: &'a [u8], s: &'a [u8], call: u32, event: u32, room: usize,
         write_observed(net, observed, lent);
         return;
     }
-    let restored = observer::read_observer(net, s);
+    let restored = values::read_observer(net, s);
     let checked = restored.checked;
     if let Checked::Refused(refusal) = checked {
         refused(refusal);
@@ -150,12 +150,12 @@ fn call_values<'a>(d: &'a [u8], s: &'a [u8], call: u32, event: u32, room: usize,
     }
     let observer = restored.observer;
     if call == 2 {
-        let observed = observer::record_event(net, observer, event);
+        let observed = values::record_event(net, observer, event);
         write_observed(net, observed, lent);
     } else if call == 3 {
-        judged(observer::judge_event(net, observer, event));
+        judged(values::judge_event(net, observer, event));
     } else {
-        known(observer::is_known(net, observer));
+        known(values::is_known(net, observer));
     }
 }
 
@@ -166,7 +166,7 @@ fn write_observed(net: net::Net, observed: Observed, out: &mut [u8]) {
         refused(refusal);
         return;
     }
-    let wrote = observer::write_observer(net, observed.observer, out);
+    let wrote = values::write_observer(net, observed.observer, out);
     written(wrote, out);
 }
 
