@@ -186,6 +186,25 @@ fn time(cases: &[Case]) {
     println!();
 }
 
+/// How the host's calls grow with the description's length.
+fn growth(cases: &[Case]) {
+    println!("| bytes | fresh ns | record ns | judge ns | fresh, ns a byte | judge, ns a byte |");
+    println!("|--:|--:|--:|--:|--:|--:|");
+    for case in cases {
+        let ns = times(&mut calls(&OBSERVERS[0], case).map(|(_, call)| call));
+        let bytes = case.d.len();
+        println!(
+            "| {bytes} | {:.0} | {:.0} | {:.0} | {:.2} | {:.2} |",
+            ns[0],
+            ns[1],
+            ns[2],
+            ns[0] / bytes as f64,
+            ns[2] / bytes as f64
+        );
+    }
+    println!();
+}
+
 // ---- stack
 
 fn stacks(case: &Case) {
@@ -206,5 +225,6 @@ fn main() {
     let cases = nets::all();
     alike(&cases);
     time(&cases);
+    growth(&nets::growing());
     stacks(&cases[2]);
 }

@@ -202,6 +202,11 @@ pub fn small(numbers: &mut Numbers) -> (Vec<u8>, Vec<u8>) {
     (reference::write_description(&net), reference::write_state(&State { estimates, unplaced }))
 }
 
+/// The largest net with more and more of its events.
+pub fn growing() -> Vec<Case> {
+    [4, 8, 16, 32, 64].map(|events| case(&Shape { events, ..LARGEST })).into()
+}
+
 pub fn all() -> Vec<Case> {
     let mut all = vec![Case { name: "the pool of three", s: state(&POOL, &[1, 1]), d: POOL.to_vec(), event: 2 }];
     all.extend([&MIDDLE, &LARGEST, &ONE_BYTE].map(case));
