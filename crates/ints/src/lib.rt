@@ -1,1 +1,0 @@
-// Linear facts over ℤ, for proofs: definitions and laws only, in specs/.
