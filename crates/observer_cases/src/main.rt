@@ -5,11 +5,14 @@ use libc::STDOUT_FILENO;
 use net::Answer;
 use net::Checked;
 use net::Known;
+use net::Net;
 use net::Observed;
 use net::Observer;
 use net::Verdict;
 use numbers::Read;
 use numbers::Wrote;
+ghost use Prim.Native.Nat.{_≤_};
+ghost use lib.ListN.{length};
 
 fn main() {
     let mut space = io::large_buffer();
@@ -37,137 +40,136 @@ fn cases(input: &[u8]) {
 }
 
 // A label, a description and a state, each after its length, then the call, the event and the room;
-// the position after them, or 0 where they are cut short.
+// the position after them, or the input's end where they are cut short.
 fn one_case(input: &[u8], at: usize) -> usize {
     let description = end_of(input, at);
-    if description == 0 {
-        return 0;
-    }
     let state = end_of(input, description);
-    if state == 0 {
-        return 0;
-    }
-    let numbers = end_of(input, state);
-    if numbers == 0 {
-        return 0;
-    }
-    let Read::Number(call, at_event) = numbers::read_number(input, numbers) else {
-        return 0;
-    };
-    let Read::Number(event, at_room) = numbers::read_number(input, at_event) else {
-        return 0;
-    };
-    let Read::Number(room, next) = numbers::read_number(input, at_room) else {
-        return 0;
-    };
+    let at_call = end_of(input, state);
+    let at_event = after(input, at_call);
+    let at_room = after(input, at_event);
     put(part(input, at));
     put(b":");
-    let d = part(input, description);
-    let s = part(input, state);
-    let mut out = [0u8; 300];
-    call_bytes(d, s, call, event, room as usize, &mut out);
-    put(b" /");
-    call_values(d, s, call, event, room as usize, &mut out);
-    put(b"\n");
+    answers(
+        part(input, description),
+        part(input, state),
+        number_at(input, at_call),
+        number_at(input, at_event),
+        number_at(input, at_room) as usize,
+    );
+    after(input, at_room)
+}
+
+// The position after a part that stands after its length, or the input's end where it is cut short.
+fn end_of(input: &[u8], at: usize) -> usize {
+    let start = after(input, at);
+    let size = number_at(input, at) as usize;
+    if input.len() - start < size {
+        return input.len();
+    }
+    start + size
+}
+
+// The part that stands after its length, or what there is of it where it is cut short.
+fn part(input: &[u8], at: usize) -> &[u8] {
+    let start = after(input, at);
+    first(&input[start..], number_at(input, at) as usize)
+}
+
+// The number at a position, or 0 where there is none.
+fn number_at(input: &[u8], at: usize) -> u32 {
+    let read = numbers::read_number(input, at);
+    match read {
+        Read::Number(number, _) => number,
+        Read::Nothing => 0,
+    }
+}
+
+// The position after the number at a position, or the input's end where there is none.
+fn after(input: &[u8], at: usize) -> usize
+    ensures { λ r. ⌜ r ≤ length (now (input .entry)) ⌝ }
+{
+    let Read::Number(_, next) = numbers::read_number(input, at) else {
+        return input.len();
+    };
+    if input.len() < next {
+        return input.len();
+    }
     next
 }
 
-// The position after a part that stands after its length, or 0 where it is cut short.
-fn end_of(input: &[u8], at: usize) -> usize {
-    let Read::Number(length, start) = numbers::read_number(input, at) else {
-        return 0;
-    };
-    let length = length as usize;
-    if input.len() < start {
-        return 0;
+// What the call answers on bytes, and on values.
+fn answers<'a>(d: &'a [u8], s: &'a [u8], call: u32, event: u32, room: usize) {
+    let mut space = [0u8; 300];
+    if 300 < room {
+        return;
     }
-    if input.len() - start < length {
-        return 0;
-    }
-    start + length
-}
-
-// The part that stands after its length, or nothing where it is cut short.
-fn part(input: &[u8], at: usize) -> &[u8] {
-    let Read::Number(length, start) = numbers::read_number(input, at) else {
-        return &input[..0];
-    };
-    let length = length as usize;
-    if input.len() < start {
-        return &input[..0];
-    }
-    if input.len() - start < length {
-        return &input[..0];
-    }
-    let end = start + length;
-    &input[start..end]
+    let out = &mut space[0..room];
+    call_bytes(d, s, call, event, out);
+    put(b" /");
+    call_values(d, s, call, event, out);
+    put(b"\n");
 }
 
 // ---- on bytes
 
-fn call_bytes<'a>(d: &'a [u8], s: &'a [u8], call: u32, event: u32, room: usize, out: &mut [u8]) {
-    if out.len() < room {
-        return;
-    }
-    let lent = &mut out[0..room];
-    if call == 1 {
-        let wrote = observer::fresh(d, lent);
-        written(wrote, lent);
-    } else if call == 2 {
-        let wrote = observer::record(d, s, event, lent);
-        written(wrote, lent);
-    } else if call == 3 {
-        judged(observer::judge(d, s, event));
-    } else {
-        known(observer::known(d, s));
+fn call_bytes<'a>(d: &'a [u8], s: &'a [u8], call: u32, event: u32, out: &mut [u8]) {
+    match call {
+        1 => {
+            let wrote = observer::fresh(d, out);
+            written(wrote, out);
+        }
+        2 => {
+            let wrote = observer::record(d, s, event, out);
+            written(wrote, out);
+        }
+        3 => judged(observer::judge(d, s, event)),
+        _ => known(observer::known(d, s)),
     }
 }
 
 // ---- on values
 
-fn call_values<'a>(d: &'a [u8], s: &'a [u8], call: u32, event: u32, room: usize, out: &mut [u8]) {
-    if out.len() < room {
-        return;
-    }
-    let lent = &mut out[0..room];
+fn call_values<'a>(d: &'a [u8], s: &'a [u8], call: u32, event: u32, out: &mut [u8]) {
     let read = description::read_description(d);
     let checked = read.checked;
-    if let Checked::Refused(refusal) = checked {
-        refused(refusal);
-        return;
-    }
-    let net = read.net;
-    if call == 1 {
-        let observed = Observer::fresh(net);
-        write_observed(net, observed, lent);
-        return;
-    }
-    let restored = values::read_observer(net, s);
-    let checked = restored.checked;
-    if let Checked::Refused(refusal) = checked {
-        refused(refusal);
-        return;
-    }
-    let observer = restored.observer;
-    if call == 2 {
-        let observed = values::record_event(net, observer, event);
-        write_observed(net, observed, lent);
-    } else if call == 3 {
-        judged(values::judge_event(net, observer, event));
-    } else {
-        known(values::is_known(net, observer));
+    match checked {
+        Checked::Good => call_net(read.net, s, call, event, out),
+        Checked::Refused(refusal) => refused(refusal),
     }
 }
 
-// What is written of the observer that a call leaves, or its refusal.
-fn write_observed(net: net::Net, observed: Observed, out: &mut [u8]) {
-    let checked = observed.checked;
+// What a call answers of the observer that it leaves, or its refusal.
+fn call_net(net: Net, s: &[u8], call: u32, event: u32, out: &mut [u8]) {
+    let left = left_by(net, s, call, event);
+    let checked = left.checked;
     if let Checked::Refused(refusal) = checked {
         refused(refusal);
         return;
     }
-    let wrote = values::write_observer(net, observed.observer, out);
-    written(wrote, out);
+    match call {
+        3 => judged(values::judge_event(net, left.observer, event)),
+        4 => known(values::is_known(net, left.observer)),
+        _ => {
+            let wrote = values::write_observer(net, left.observer, out);
+            written(wrote, out);
+        }
+    }
+}
+
+// The observer that a call leaves: a fresh one, the saved one, or that with the event recorded.
+fn left_by(net: Net, s: &[u8], call: u32, event: u32) -> Observed {
+    if call == 1 {
+        return Observer::fresh(net);
+    }
+    let saved = values::read_observer(net, s);
+    let checked = saved.checked;
+    if let Checked::Refused(_) = checked {
+        return saved;
+    }
+    if call == 2 {
+        return values::record_event(net, saved.observer, event);
+    }
+    saved
 }
 
 // ---- answers
@@ -196,10 +198,7 @@ fn judged(answer: Answer) {
     match answer {
         Answer::Given(verdict) => match verdict {
             Verdict::Allow => put(b" allow"),
-            Verdict::Hold(limit) => {
-                put(b" hold ");
-                decimal(limit as u64);
-            }
+            Verdict::Hold(limit) => numbered(b" hold ", limit),
         },
         Answer::Refused(refusal) => refused(refusal),
     }
@@ -214,12 +213,13 @@ fn known(answer: Known) {
 }
 
 fn refused(refusal: u32) {
-    put(b" refused ");
-    decimal(refusal as u64);
+    numbered(b" refused ", refusal);
 }
 
-fn decimal(n: u64) {
-    io::print_decimal(STDOUT_FILENO, n);
+// A text and a number after it.
+fn numbered(text: &[u8], number: u32) {
+    put(text);
+    io::print_decimal(STDOUT_FILENO, number as u64);
 }
 
 fn put(text: &[u8]) {
