@@ -1,10 +1,12 @@
 // Descriptions, each with a label, from standard input: whether each is read, the sizes of its net,
 // and whether it is written back; then the pool of three with each of its bytes changed to each
 // value.
-ghost use Prim.Native.Nat.{_<_};
+ghost use Prim.Native.Nat.{_<_, _≤_};
+ghost use lib.ListN.{length};
 use libc::STDIN_FILENO;
 use libc::STDOUT_FILENO;
 use net::Checked;
+use net::Net;
 use numbers::Read;
 use numbers::Wrote;
 
@@ -76,87 +78,93 @@ fn cases(input: &[u8]) {
     }
 }
 
-// A label and a description, each after its length; the position after them, or 0 where they are
-// cut short.
+// A label and a description, each after its length; the position after them, or the input's end
+// where they are cut short.
 fn one_case(input: &[u8], at: usize) -> usize {
-    let label = end_of(input, at);
-    if label == 0 {
-        return 0;
-    }
-    let end = end_of(input, label);
-    if end == 0 {
-        return 0;
-    }
+    let description = end_of(input, at);
     put(part(input, at));
     put(b": ");
-    answer(part(input, label));
+    answer(part(input, description));
     put(b"\n");
-    end
+    end_of(input, description)
 }
 
-// The position after a part that stands after its length, or 0 where it is cut short.
+// The position after a part that stands after its length, or the input's end where it is cut short.
 fn end_of(input: &[u8], at: usize) -> usize {
-    let Read::Number(length, start) = numbers::read_number(input, at) else {
-        return 0;
-    };
-    let length = length as usize;
-    if input.len() < start {
-        return 0;
+    let start = after(input, at);
+    let size = number_at(input, at) as usize;
+    if input.len() - start < size {
+        return input.len();
     }
-    if input.len() - start < length {
-        return 0;
-    }
-    start + length
+    start + size
 }
 
-// The part that stands after its length, or nothing where it is cut short.
+// The part that stands after its length, or what there is of it where it is cut short.
 fn part(input: &[u8], at: usize) -> &[u8] {
-    let Read::Number(length, start) = numbers::read_number(input, at) else {
-        return &input[..0];
+    let start = after(input, at);
+    first(&input[start..], number_at(input, at) as usize)
+}
+
+// The number at a position, or 0 where there is none.
+fn number_at(input: &[u8], at: usize) -> u32 {
+    let read = numbers::read_number(input, at);
+    match read {
+        Read::Number(number, _) => number,
+        Read::Nothing => 0,
+    }
+}
+
+// The position after the number at a position, or the input's end where there is none.
+fn after(input: &[u8], at: usize) -> usize
+    ensures { λ r. ⌜ r ≤ length (now (input .entry)) ⌝ }
+{
+    let Read::Number(_, next) = numbers::read_number(input, at) else {
+        return input.len();
     };
-    let length = length as usize;
-    if input.len() < start {
-        return &input[..0];
+    if input.len() < next {
+        return input.len();
     }
-    if input.len() - start < length {
-        return &input[..0];
-    }
-    let end = start + length;
-    &input[start..end]
+    next
 }
 
 fn answer(d: &[u8]) {
     let read = description::read_description(d);
     let checked = read.checked;
-    if let Checked::Refused(refusal) = checked {
-        put(b"refused ");
-        decimal(refusal as u64);
-        return;
+    match checked {
+        Checked::Good => answer_net(read.net, d),
+        Checked::Refused(refusal) => numbered(b"refused ", refusal as usize),
     }
-    put(b"net ");
-    decimal(read.net.places as u64);
-    put(b" ");
-    decimal(read.net.events as u64);
-    put(b" ");
-    decimal(read.net.groups as u64);
-    put(b" ");
-    decimal(read.net.limits as u64);
-    let mut out = io::large_buffer();
-    let wrote = writing::write_description(read.net, &mut out);
-    let Wrote::Bytes(count) = wrote else {
-        put(b", not written back");
-        return;
-    };
-    back(check::same(first(&out, count), d), count);
 }
 
-fn back(same: bool, count: usize) {
-    if same {
-        put(b", written back in ");
-    } else {
-        put(b", written as others in ");
+fn answer_net(net: Net, d: &[u8]) {
+    put(b"net");
+    size(net.places);
+    size(net.events);
+    size(net.groups);
+    size(net.limits);
+    back(net, d);
+}
+
+fn size(number: usize) {
+    numbered(b" ", number);
+}
+
+// Whether the net is written as the description.
+fn back(net: Net, d: &[u8]) {
+    let mut out = io::large_buffer();
+    let wrote = writing::write_description(net, &mut out);
+    match wrote {
+        Wrote::Bytes(count) => compared(first(&out, count), d),
+        Wrote::Refused(_) => put(b", not written back"),
     }
-    decimal(count as u64);
+}
+
+fn compared<'a>(written: &'a [u8], d: &'a [u8]) {
+    if check::same(written, d) {
+        numbered(b", written back in ", written.len());
+    } else {
+        numbered(b", written as others in ", written.len());
+    }
 }
 
 // A line for each byte of the pool: for each value of the byte 0 where the bytes are read, else the
@@ -176,7 +184,7 @@ fn changed_pool(at: usize)
     while value < 256 {
         let mut d = POOL;
         d[at] = value as u8;
-        decimal(refusal_of(&d) as u64);
+        decimal(refusal_of(&d) as usize);
         value += 1;
     }
     put(b"\n");
@@ -191,8 +199,14 @@ fn refusal_of(d: &[u8; 39]) -> u32 {
     }
 }
 
-fn decimal(n: u64) {
-    io::print_decimal(STDOUT_FILENO, n);
+// A text and a number after it.
+fn numbered(text: &[u8], number: usize) {
+    put(text);
+    decimal(number);
+}
+
+fn decimal(number: usize) {
+    io::print_decimal(STDOUT_FILENO, number as u64);
 }
 
 fn put(text: &[u8]) {
