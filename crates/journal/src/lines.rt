@@ -70,16 +70,10 @@ fn put_answer(out: &mut [u8], at: usize, answer: Answer) -> usize
 {
     match answer {
         Answer::Given(verdict) => match verdict {
-            Verdict::Allow => put_text(out, at, b" allow 0"),
-            Verdict::Hold(limit) => {
-                let next = put_text(out, at, b" hold ");
-                put_number(out, next, limit)
-            }
+            Verdict::Allow => put_numbered(out, at, b" allow ", 0),
+            Verdict::Hold(limit) => put_numbered(out, at, b" hold ", limit),
         },
-        Answer::Refused(refusal) => {
-            let next = put_text(out, at, b" refused ");
-            put_number(out, next, refusal)
-        }
+        Answer::Refused(refusal) => put_numbered(out, at, b" refused ", refusal),
     }
 }
 
@@ -95,11 +89,19 @@ fn put_numbers(out: &mut [u8], at: usize, size: usize, numbers: &[u32], count: u
         if count <= i {
             return next;
         }
-        let after = put_text(out, next, b" ");
-        next = put_number(out, after, numbers[i]);
+        next = put_numbered(out, next, b" ", numbers[i]);
         i += 1;
     }
     next
+}
+
+// The text at a position and the number's decimal digits after it; the position after them.
+fn put_numbered(out: &mut [u8], at: usize, text: &[u8], number: u32) -> usize
+    requires { ⌜ at + length (now text) + 10 ≤ length (now out) ⌝ }
+    ensures { λ r. ⌜ r ≤ at + length (now (text .entry)) + 10 ⌝ }
+{
+    let next = put_text(out, at, text);
+    put_number(out, next, number)
 }
 
 // The number's decimal digits at a position; the position after them.

@@ -10,7 +10,7 @@ use net::Checked;
 use net::Net;
 use net::Observer;
 ghost use mathlib.Core.Path.{_≡_};
-ghost use Prim.Native.Nat.{_≤_};
+ghost use Prim.Native.Nat.{_+_, _≤_};
 ghost use lib.ListN.{length};
 ghost use Rattle.values.specs.Values.{recordedObserver};
 ghost use Rattle.journal.specs.Buffers.{longestNumber, longestLine};
@@ -64,43 +64,71 @@ fn events(net: Net, space: &mut [u8], start: usize, held: usize, out: &mut [u8])
         let next = input::next_number(&space[0..end], at);
         match next {
             Next::Number(event, after) => {
-                let answer = values::judge_event(net, observer, event);
-                let next = recorded(net, observer, event);
-                observer = next;
-                let unplaced = values::unplaced(net, observer);
+                let kept = recorded(net, observer, event);
+                used = event_line(out, used, net, observer, kept, event);
+                observer = kept;
                 at = after;
-                used = lines::line(
-                    out,
-                    used,
-                    event,
-                    answer,
-                    net.places,
-                    &observer.estimates,
-                    net.groups,
-                    &unplaced.numbers,
-                );
             }
-            Next::IllFormed => {
+            _ => {
                 lines::flush(out, used);
-                lines::refuse(1);
-                return;
-            }
-            Next::Short => {
-                lines::flush(out, used);
-                used = 0;
                 let left = end - at;
-                let more = input::refill(space, at, left);
+                let more = read_more(space, at, left, next);
                 if more == 0 {
-                    if 0 < left {
-                        lines::refuse(1);
-                    }
                     return;
                 }
+                used = 0;
                 at = 0;
                 end = left + more;
             }
         }
     }
+}
+
+// Puts the line of an event into the buffer, of which so many bytes are used, with the observers
+// before and after it; how many are used then.
+fn event_line(
+    out: &mut [u8],
+    used: usize,
+    net: Net,
+    before: Observer,
+    after: Observer,
+    event: u32,
+) -> usize
+    requires { ⌜ longestLine ≤ length (now out) ⌝ }
+    requires { ⌜ used ≤ length (now out) ⌝ }
+    ensures { λ r. ⌜ r ≤ length (now (out .entry)) ⌝ }
+{
+    let answer = values::judge_event(net, before, event);
+    let unplaced = values::unplaced(net, after);
+    lines::line(
+        out,
+        used,
+        event,
+        answer,
+        net.places,
+        &after.estimates,
+        net.groups,
+        &unplaced.numbers,
+    )
+}
+
+// Reads on where more bytes are needed to tell the next number: how many came, none where the input
+// ends or no stored number stands there. A number that isn't whole by then is refused.
+fn read_more(space: &mut [u8], at: usize, left: usize, next: Next) -> usize
+    requires { ⌜ at + left ≤ length (now space) ⌝ }
+    ensures { λ r. ⌜ left + r ≤ length (now (space .entry)) ⌝ }
+{
+    if let Next::IllFormed = next {
+        lines::refuse(1);
+        return 0;
+    }
+    let more = input::refill(space, at, left);
+    if more == 0 {
+        if 0 < left {
+            lines::refuse(1);
+        }
+    }
+    more
 }
 
 // The observer after an event, a held one too, or the same where the event is refused.

@@ -41,17 +41,11 @@ next-number-requires c κs = search needs
 enum-known-next : tie.Need-enum-known-next Inv-loop μ-loop
 enum-known-next c = search needs
 
-judge-event-requires : tie.Need-judge-event-requires Inv-loop μ-loop
-judge-event-requires c κs = search needs
-
 recorded-requires : tie.Need-recorded-requires Inv-loop μ-loop
 recorded-requires c κs = search needs
 
-unplaced-requires : tie.Need-unplaced-requires Inv-loop μ-loop
-unplaced-requires c κs = search needs
-
-line-requires : tie.Need-line-requires Inv-loop μ-loop
-line-requires c κs = search needs
+event-line-requires : tie.Need-event-line-requires Inv-loop μ-loop
+event-line-requires c κs = search needs
 
 loop-less : tie.Need-loop-less Inv-loop μ-loop
 loop-less c = search needs
@@ -59,27 +53,27 @@ loop-less c = search needs
 loop-again : tie.Need-loop-again Inv-loop μ-loop
 loop-again c =
     let line = c .before .before in
-    let told = line .before .before .before .before .before .before .before .before .before in
+    let told = line .before .before .before in
     let read = told .before .before .before in
     let inside = simp (length-take, length-drop) at (told-within _ _ _ _ (read .next-number .ensures) (told .before .next .given .1)) in
     let between = read .before .before .before .before .loop .inv in
     record {
       ordered = omega (arith, inside, between .within);
       within = between .within;
-      fits = omega (arith, line .line .ensures, line .line .kept .0);
-      roomy = omega (arith, line .line .kept .0, between .roomy);
+      fits = omega (arith, line .event-line .ensures, line .event-line .kept .0);
+      roomy = omega (arith, line .event-line .kept .0, between .roomy);
       space-long = between .space-long;
-      out-long = omega (arith, line .line .kept .0, between .out-long);
+      out-long = omega (arith, line .event-line .kept .0, between .out-long);
     }
-
-enum-told : tie.Need-enum-told Inv-loop μ-loop
-enum-told c = search needs
 
 flush-requires : tie.Need-flush-requires Inv-loop μ-loop
 flush-requires c κs = search needs
 
-refuse-requires : tie.Need-refuse-requires Inv-loop μ-loop
-refuse-requires c κs = search needs
+sub-left : tie.Need-sub-left Inv-loop μ-loop
+sub-left c = search needs
+
+read-more-requires : tie.Need-read-more-requires Inv-loop μ-loop
+read-more-requires c κs = search needs
 
 same-length : tie.Need-same-length Inv-loop μ-loop
 same-length c = search needs
@@ -90,20 +84,24 @@ same-length-2 c = search needs
 returns : tie.Need-returns Inv-loop μ-loop
 returns c = search needs
 
-enum-told-2 : tie.Need-enum-told-2 Inv-loop μ-loop
-enum-told-2 c = search needs
+add-end : tie.Need-add-end Inv-loop μ-loop
+add-end c = search needs
 
-flush-requires-2 : tie.Need-flush-requires-2 Inv-loop μ-loop
-flush-requires-2 c κs = search needs
+loop-less-2 : tie.Need-loop-less-2 Inv-loop μ-loop
+loop-less-2 c = search needs
 
-sub-left : tie.Need-sub-left Inv-loop μ-loop
-sub-left c = search needs
-
-refill-requires : tie.Need-refill-requires Inv-loop μ-loop
-refill-requires c κs = search needs
-
-refuse-requires-2 : tie.Need-refuse-requires-2 Inv-loop μ-loop
-refuse-requires-2 c κs = search needs
+loop-again-2 : tie.Need-loop-again-2 Inv-loop μ-loop
+loop-again-2 c =
+    let more = c .before .before .before in
+    let between = more .before .before .before .before .before .before .before .before .before .loop .inv in
+    record {
+      ordered = omega arith;
+      within = omega (arith, more .read-more .ensures, more .read-more .kept .0);
+      fits = omega arith;
+      roomy = between .roomy;
+      space-long = omega (arith, more .read-more .kept .0, between .space-long);
+      out-long = between .out-long;
+    }
 
 same-length-3 : tie.Need-same-length-3 Inv-loop μ-loop
 same-length-3 c = search needs
@@ -113,43 +111,6 @@ same-length-4 c = search needs
 
 returns-2 : tie.Need-returns-2 Inv-loop μ-loop
 returns-2 c = search needs
-
-same-length-5 : tie.Need-same-length-5 Inv-loop μ-loop
-same-length-5 c = search needs
-
-same-length-6 : tie.Need-same-length-6 Inv-loop μ-loop
-same-length-6 c = search needs
-
-returns-3 : tie.Need-returns-3 Inv-loop μ-loop
-returns-3 c = search needs
-
-add-end : tie.Need-add-end Inv-loop μ-loop
-add-end c = search needs
-
-loop-less-2 : tie.Need-loop-less-2 Inv-loop μ-loop
-loop-less-2 c = search needs
-
-loop-again-2 : tie.Need-loop-again-2 Inv-loop μ-loop
-loop-again-2 c =
-    let fill = c .before .before .before in
-    let between = fill .before .before .before .before .before .before .before .before .before .before .loop .inv in
-    record {
-      ordered = omega arith;
-      within = omega (arith, fill .refill .ensures .0, fill .refill .kept .0);
-      fits = omega arith;
-      roomy = between .roomy;
-      space-long = omega (arith, fill .refill .kept .0, between .space-long);
-      out-long = between .out-long;
-    }
-
-same-length-7 : tie.Need-same-length-7 Inv-loop μ-loop
-same-length-7 c = search needs
-
-same-length-8 : tie.Need-same-length-8 Inv-loop μ-loop
-same-length-8 c = search needs
-
-returns-4 : tie.Need-returns-4 Inv-loop μ-loop
-returns-4 c = search needs
 
 pub events-spec : {M : Type 1} → statement M
 events-spec =
@@ -165,32 +126,19 @@ events-spec =
     part-next-number-end
     next-number-requires
     enum-known-next
-    judge-event-requires
     recorded-requires
-    unplaced-requires
-    line-requires
+    event-line-requires
     loop-less
     loop-again
-    enum-told
     flush-requires
-    refuse-requires
+    sub-left
+    read-more-requires
     same-length
     same-length-2
     returns
-    enum-told-2
-    flush-requires-2
-    sub-left
-    refill-requires
-    refuse-requires-2
-    same-length-3
-    same-length-4
-    returns-2
-    same-length-5
-    same-length-6
-    returns-3
     add-end
     loop-less-2
     loop-again-2
-    same-length-7
-    same-length-8
-    returns-4)
+    same-length-3
+    same-length-4
+    returns-2)

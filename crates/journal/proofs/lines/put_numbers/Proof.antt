@@ -7,10 +7,10 @@ use Rattle.journal.proofs.lines.put_numbers.Statement.{statement}
 use Rattle.journal.proofs.lines.put_numbers.Tie as tie
 
 abbrev Inv-loop : tie.InvT-loop
-Inv-loop out₀ at size numbers count next₀ i₀ t9 out next i = (i ≤ size) × (next ≤ at + 11 * i) × (length out ≡ length out₀)
+Inv-loop out₀ at size numbers count next₀ i₀ t8 out next i = (i ≤ size) × (next ≤ at + 11 * i) × (length out ≡ length out₀)
 
 abbrev μ-loop : tie.MeasureT-loop
-μ-loop out₀ at size numbers count next₀ i₀ t9 out next i = size - i
+μ-loop out₀ at size numbers count next₀ i₀ t8 out next i = size - i
 
 loop-holds : tie.Need-loop-holds Inv-loop μ-loop
 loop-holds c = search needs
@@ -21,20 +21,17 @@ same-length c = search needs
 returns : tie.Need-returns Inv-loop μ-loop
 returns c = search needs
 
-slice-aggregate-put-text : tie.Need-slice-aggregate-put-text Inv-loop μ-loop
-slice-aggregate-put-text c = search needs
+slice-aggregate-put-numbered : tie.Need-slice-aggregate-put-numbered Inv-loop μ-loop
+slice-aggregate-put-numbered c = search needs
 
-put-text-requires : tie.Need-put-text-requires Inv-loop μ-loop
-put-text-requires c κs = search needs
+mul-put-numbered : tie.Need-mul-put-numbered Inv-loop μ-loop
+mul-put-numbered c = search needs
 
-mul-put-number : tie.Need-mul-put-number Inv-loop μ-loop
-mul-put-number c = search needs
+shared-slice-read-put-numbered : tie.Need-shared-slice-read-put-numbered Inv-loop μ-loop
+shared-slice-read-put-numbered c = search needs
 
-shared-slice-read-put-number : tie.Need-shared-slice-read-put-number Inv-loop μ-loop
-shared-slice-read-put-number c = search needs
-
-put-number-requires : tie.Need-put-number-requires Inv-loop μ-loop
-put-number-requires c κs = search needs
+put-numbered-requires : tie.Need-put-numbered-requires Inv-loop μ-loop
+put-numbered-requires c κs = search needs
 
 add-i : tie.Need-add-i Inv-loop μ-loop
 add-i c = search needs
@@ -60,11 +57,10 @@ put-numbers-spec =
     loop-holds
     same-length
     returns
-    slice-aggregate-put-text
-    put-text-requires
-    mul-put-number
-    shared-slice-read-put-number
-    put-number-requires
+    slice-aggregate-put-numbered
+    mul-put-numbered
+    shared-slice-read-put-numbered
+    put-numbered-requires
     add-i
     loop-less
     loop-again
