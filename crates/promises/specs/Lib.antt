@@ -4,3 +4,4 @@ pub mod Refusals
 pub mod Values
 pub mod Promises
 pub mod Examples
+pub mod Host
