@@ -272,20 +272,19 @@ pub at-one : (s : List ℕ) (at byte : ℕ) → at < length s → byte ≡ getD 
 unfolding numberAt number small after
 at-one s at byte h e last = rw (front-next s at byte h e, front-last byte (drop (at + 1) s) last, le-leb byte largest (omega arith))
 
--- a number of two bytes, of which the second is 1: the first is the number
-pub at-two : (s : List ℕ) (at byte : ℕ) → at + 1 < length s → byte ≡ getD s at 0 → 128 ≤ byte → byte < 256 → 1 ≡ getD s (at + 1) 0
-    → Number byte (at + 2) ≡ numberAt s at
+-- a number of two bytes
+pub at-two : (s : List ℕ) (at low high : ℕ) → at + 1 < length s → low ≡ getD s at 0 → 128 ≤ low → low < 256 → high ≡ getD s (at + 1) 0 → 0 < high → high < 128
+    → Number (low - 128 + 128 * high) (at + 2) ≡ numberAt s at
 unfolding numberAt number small after
-at-two s at byte h e more below one =
+at-two s at low high h e more below f positive last =
     rw (
-      front-next s at byte (omega arith) e,
-      front-step byte (drop (at + 1) s) more below,
-      front-next s (at + 1) 1 h one,
-      front-last 1 (drop (at + 1 + 1) s) (omega arith),
-      before-found (byte - 128) 1 1 (omega arith),
-      le-leb (byte - 128 + 128 * 1) largest (omega arith),
+      front-next s at low (omega arith) e,
+      front-step low (drop (at + 1) s) more below,
+      front-next s (at + 1) high h f,
+      front-last high (drop (at + 1 + 1) s) last,
+      before-found (low - 128) high 1 positive,
+      le-leb (low - 128 + 128 * high) largest (omega arith),
     )
-    (ap₂ Number (omega arith) (omega arith))
 
 -- what is read takes at least one byte and lies within the bytes
 pub number-within : (s : List ℕ) (at n next : ℕ) → numberAt s at ≡ Number n next → (at < next) × (next ≤ length s)

@@ -1,10 +1,15 @@
 -- Laws of joined lists.
-use Prim.Native.Nat.{ℕ, zero, suc, _<_}
+use Prim.Native.Nat.{ℕ, zero, suc, _≤_, _<_}
 use mathlib.Core.Path.{_≡_, refl, sym, ap, _∙_}
+use mathlib.Core.Bool.{cond}
 use mathlib.Core.List.{List, [], _∷_, _++_, map, flatMap, append-nil, append-assoc}
 use native.Mathlib.Omega.{arith}
+use native.Mathlib.Decide.{decLt}
+use borrow.Author.Tests.{lt-ltb, le-ltb}
 use lib.ListN.{length, getD, replicate, length-append}
-use Rattle.numbers.specs.Reader.Joined.{joined, listed, Each}
+use lib.Seq.{ext-getD}
+use lib.Dec.{ltb}
+use Rattle.numbers.specs.Reader.Joined.{joined, listed, firstOf, Each}
 
 -- ---- joined lists
 
@@ -69,6 +74,33 @@ listed-getD d (a ∷ l) = joined-first (length l) (λ i. getD (a ∷ l) i d ∷ 
 -- the lists of a list's elements
 pub flatMap-getD : {A B : Type 0} (f : A → List B) (d : A) (l : List A) → flatMap f l ≡ joined (length l) (λ i. f (getD l i d))
 flatMap-getD f d l = ap (flatMap f) (sym (listed-getD d l)) ∙ flatMap-listed f (length l) (λ i. getD l i d)
+
+-- ---- the first entries, and 0 after them
+
+module _ (size n : ℕ) where
+  pub first-at : (f : ℕ → ℕ) → n ≤ size → (i : ℕ) → i < n → getD (firstOf size n f) i 0 ≡ f i
+  first-at f h i l = getD-listed size (λ j. cond (ltb j n) (f j) 0) i 0 (omega arith) ∙ rw (lt-ltb i n l)
+
+  pub first-past : (f : ℕ → ℕ) (i : ℕ) → n ≤ i → i < size → getD (firstOf size n f) i 0 ≡ 0
+  first-past f i l h = getD-listed size (λ j. cond (ltb j n) (f j) 0) i 0 h ∙ rw (le-ltb i n l)
+
+  pub first-cong : {f g : ℕ → ℕ} → ((i : ℕ) → i < n → f i ≡ g i) → firstOf size n f ≡ firstOf size n g
+  first-cong {f} {g} e = joined-cong size (λ i l. ap (λ (v : ℕ). v ∷ []) (at i (decLt i n)))
+    where
+      at : (i : ℕ) → Dec (i < n) → cond (ltb i n) (f i) 0 ≡ cond (ltb i n) (g i) 0
+      at i (yes l) = rw (lt-ltb i n l) (e i l)
+      at i (no l) = rw (le-ltb i n (omega arith))
+
+  -- a list of such entries
+  pub is-first : (f : ℕ → ℕ) (entries : List ℕ) → length entries ≡ size → ((i : ℕ) → i < n → getD entries i 0 ≡ f i)
+      → ((i : ℕ) → n ≤ i → i < size → getD entries i 0 ≡ 0) → entries ≡ firstOf size n f
+  is-first f entries long are past =
+      ext-getD 0 entries (firstOf size n f) (long ∙ sym (length-listed size _))
+      (λ i l. at i (omega (arith, long)) (decLt i n) ∙ sym (getD-listed size (λ j. cond (ltb j n) (f j) 0) i 0 (omega (arith, long))))
+    where
+      at : (i : ℕ) → i < size → Dec (i < n) → getD entries i 0 ≡ cond (ltb i n) (f i) 0
+      at i h (yes l) = rw (lt-ltb i n l) (are i l)
+      at i h (no l) = rw (le-ltb i n (omega arith)) (past i (omega arith) h)
 
 -- ---- each element
 
