@@ -1,23 +1,26 @@
--- `description_cases::changed_pool` is safe and ends: the measure is what is left of the values.
+-- `cases::descriptions::each_value` is safe and ends: the measure is what is left of the values.
 use Prim.Native.Nat.{_-_}
 use borrow.Author.Needs.{needs}
-use Rattle.description_cases.proofs.changed_pool.Statement.{statement}
-use Rattle.description_cases.proofs.changed_pool.Tie as tie
+use Rattle.cases.proofs.descriptions.each_value.Statement.{statement}
+use Rattle.cases.proofs.descriptions.each_value.Tie as tie
 
 abbrev Inv-loop : tie.InvT-loop
-Inv-loop at value₀ t4 value = Unit
+Inv-loop space₀ size at value₀ space value = Unit
 
 abbrev μ-loop : tie.MeasureT-loop
-μ-loop at value₀ t4 value = 256 - value
+μ-loop space₀ size at value₀ space value = 256 - value
 
 loop-holds : tie.Need-loop-holds Inv-loop μ-loop
 loop-holds c = search needs
 
-cast-d : tie.Need-cast-d Inv-loop μ-loop
-cast-d c = search needs
+cast-space : tie.Need-cast-space Inv-loop μ-loop
+cast-space c = search needs
 
-array-write-d : tie.Need-array-write-d Inv-loop μ-loop
-array-write-d c = search needs
+element-write-space : tie.Need-element-write-space Inv-loop μ-loop
+element-write-space c = search needs
+
+first-requires : tie.Need-first-requires Inv-loop μ-loop
+first-requires c κs = search needs
 
 refusal-of-requires : tie.Need-refusal-of-requires Inv-loop μ-loop
 refusal-of-requires c κs = search needs
@@ -37,30 +40,23 @@ loop-less c = search needs
 loop-again : tie.Need-loop-again Inv-loop μ-loop
 loop-again c = search needs
 
-slice-aggregate-put : tie.Need-slice-aggregate-put Inv-loop μ-loop
-slice-aggregate-put c = search needs
-
-put-requires : tie.Need-put-requires Inv-loop μ-loop
-put-requires c κs = search needs
-
 returns : tie.Need-returns Inv-loop μ-loop
 returns c = search needs
 
-pub changed-pool-spec : {M : Type 1} → statement M
-changed-pool-spec =
+pub each-value-spec : {M : Type 1} → statement M
+each-value-spec =
     tie.close
     (tie.spec
     Inv-loop
     μ-loop
     loop-holds
-    cast-d
-    array-write-d
+    cast-space
+    element-write-space
+    first-requires
     refusal-of-requires
     cast-decimal
     decimal-requires
     add-value
     loop-less
     loop-again
-    slice-aggregate-put
-    put-requires
     returns)

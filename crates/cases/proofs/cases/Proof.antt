@@ -1,9 +1,9 @@
--- `description_cases::cases` is safe and ends: the measure is what is left of the input.
+-- `cases::cases` is safe and ends: the measure is what is left of the input.
 use Prim.Native.Nat.{_-_}
 use lib.ListN.{length}
 use borrow.Author.Needs.{needs}
-use Rattle.description_cases.proofs.cases.Statement.{statement}
-use Rattle.description_cases.proofs.cases.Tie as tie
+use Rattle.cases.proofs.cases.Statement.{statement}
+use Rattle.cases.proofs.cases.Tie as tie
 
 abbrev Inv-loop : tie.InvT-loop
 Inv-loop input at₀ at = Unit

@@ -1,9 +1,9 @@
--- `observer_cases::bytes` is safe and ends: the measure is what is left of the bytes.
+-- `cases::words::bytes` is safe and ends: the measure is what is left of the bytes.
 use Prim.Native.Nat.{_-_}
 use lib.ListN.{length}
 use borrow.Author.Needs.{needs}
-use Rattle.observer_cases.proofs.bytes.Statement.{statement}
-use Rattle.observer_cases.proofs.bytes.Tie as tie
+use Rattle.cases.proofs.words.bytes.Statement.{statement}
+use Rattle.cases.proofs.words.bytes.Tie as tie
 
 abbrev Inv-loop : tie.InvT-loop
 Inv-loop written i₀ i = Unit

@@ -1,0 +1,59 @@
+//! What the program must say of a case.
+
+use crate::Call;
+use reference::{fresh, judge, known, read_description, read_state, record, write_description, write_state};
+use reference::{Refusal, State, Verdict};
+
+/// What stands after the label. A call of the observer is answered twice, on bytes and on values in memory.
+pub fn said(d: &[u8], s: &[u8], call: Call, event: u32, room: u32) -> String {
+    let words = |answer: Result<String, Refusal>| answer.unwrap_or_else(|refusal| format!(" refused {refusal}"));
+    match call {
+        Call::Describe => words(described(d)),
+        Call::Changed => changed(d, event as usize),
+        _ => {
+            let answer = words(answered(d, s, call, event, room));
+            format!("{answer} /{answer}")
+        }
+    }
+}
+
+fn described(d: &[u8]) -> Result<String, Refusal> {
+    let net = read_description(d)?;
+    assert_eq!(write_description(&net), d);
+    let sizes = format!("{} {} {} {}", net.places(), net.takes.len(), net.groups.len(), net.limits.len());
+    Ok(format!(" net {sizes}, written back in {}", d.len()))
+}
+
+/// For each value at the position 0 where the bytes are read, else the refusal.
+fn changed(d: &[u8], at: usize) -> String {
+    let digit = |value: u8| {
+        let mut bytes = d.to_vec();
+        bytes[at] = value;
+        char::from_digit(read_description(&bytes).err().unwrap_or(0), 10).unwrap()
+    };
+    format!(" {}", (0..=255).map(digit).collect::<String>())
+}
+
+fn answered(d: &[u8], s: &[u8], call: Call, event: u32, room: u32) -> Result<String, Refusal> {
+    let net = read_description(d)?;
+    if let Call::Fresh = call {
+        return written(&fresh(&net), room);
+    }
+    let state = read_state(&net, s)?;
+    match call {
+        Call::Record => written(&record(&net, &state, event)?, room),
+        Call::Judge => Ok(match judge(&net, &state, event)? {
+            Verdict::Allow => " allow".to_string(),
+            Verdict::Hold(limit) => format!(" hold {limit}"),
+        }),
+        _ => Ok(if known(&net, &state) { " yes" } else { " no" }.to_string()),
+    }
+}
+
+fn written(state: &State, room: u32) -> Result<String, Refusal> {
+    let bytes = write_state(state);
+    if bytes.len() > room as usize {
+        return Err(13);
+    }
+    Ok(bytes.iter().map(|byte| format!(" {byte:02x}")).collect())
+}

@@ -1,0 +1,250 @@
+//! The cases of calls on nets, states and events.
+
+use crate::random::Random;
+use crate::{Call, Cases};
+use reference::description::{Group, Limit};
+use reference::{fresh, read_description, record, write_description, write_state, Net, State, POOL};
+
+/// More room than any state of the cases needs.
+const ROOM: u32 = 300;
+
+/// The fresh state of the pool.
+const POOL_STATE: [u8; 7] = [0x01, 0x03, 0x00, 0x00, 0x00, 0x01, 0x03];
+
+pub fn add(cases: &mut Cases) {
+    pool(cases);
+    faulty_states(cases);
+    nested(cases);
+    filling(cases);
+    loose(cases);
+    empty_groups(cases);
+    depth(cases);
+    weights(cases);
+    refused_descriptions(cases);
+    many_shapes(cases);
+}
+
+impl Cases {
+    /// Recording and judging an event at one state.
+    fn event(&mut self, label: &str, d: &[u8], s: &[u8], event: u32) {
+        self.add(&format!("{label}, record {event}"), d, s, Call::Record, event, ROOM);
+        self.add(&format!("{label}, judge {event}"), d, s, Call::Judge, event, ROOM);
+    }
+
+    fn known(&mut self, label: &str, d: &[u8], s: &[u8]) {
+        self.add(&format!("{label}, known"), d, s, Call::Known, 0, 0);
+    }
+
+    /// Events one after the other from fresh, judged and recorded, held ones too.
+    fn course(&mut self, label: &str, d: &[u8], events: &[u32]) {
+        self.add(&format!("{label}, fresh"), d, &[], Call::Fresh, 0, ROOM);
+        let net = read_description(d).unwrap();
+        let mut state = fresh(&net);
+        for &event in events {
+            self.event(label, d, &write_state(&state), event);
+            if let Ok(next) = record(&net, &state, event) {
+                state = next;
+            }
+            self.known(label, d, &write_state(&state));
+        }
+    }
+}
+
+/// The description of a net; groups are numbered in the order of their marks, so that the same net is read.
+fn described(net: &Net) -> Vec<u8> {
+    let bytes = write_description(net);
+    assert_eq!(read_description(&bytes).as_ref(), Ok(net));
+    bytes
+}
+
+/// An arc: a place, what is taken from it and what is given to it.
+type Arc = (usize, u32, u32);
+
+/// The description of places in groups, events by place, and limits.
+fn net(homes: &[usize], groups: &[(usize, u32)], events: &[&[Arc]], limits: &[(i64, &[(usize, i64)])]) -> Vec<u8> {
+    let row = |event: &[Arc], of: fn(&Arc) -> u32| {
+        let mut row = vec![0; homes.len()];
+        event.iter().for_each(|arc| row[arc.0 - 1] = of(arc));
+        row
+    };
+    let limit = |&(ceiling, terms): &(i64, &[(usize, i64)])| {
+        let mut weights = vec![0; homes.len()];
+        terms.iter().for_each(|&(p, weight)| weights[p - 1] = weight);
+        Limit { ceiling, weights }
+    };
+    described(&Net {
+        homes: homes.to_vec(),
+        groups: groups.iter().map(|&(around, count)| Group { around, count }).collect(),
+        takes: events.iter().map(|event| row(event, |arc| arc.1)).collect(),
+        gives: events.iter().map(|event| row(event, |arc| arc.2)).collect(),
+        limits: limits.iter().map(limit).collect(),
+    })
+}
+
+fn state(estimates: &[u32], unplaced: &[u32]) -> Vec<u8> {
+    write_state(&State { estimates: estimates.to_vec(), unplaced: unplaced.to_vec() })
+}
+
+/// The pool of three, how much room a call has, and numbers of no event.
+fn pool(cases: &mut Cases) {
+    cases.course("pool", &POOL, &[1, 1, 2, 1, 1, 2, 2, 3, 2, 3, 3]);
+    for room in [0, 6, 7, 8] {
+        cases.add(&format!("pool, fresh in {room}"), &POOL, &[], Call::Fresh, 0, room);
+        cases.add(&format!("pool, record in {room}"), &POOL, &POOL_STATE, Call::Record, 1, room);
+    }
+    for event in [0, 3, 4, 64, 4_294_967_295] {
+        cases.event("pool, number", &POOL, &POOL_STATE, event);
+    }
+    // a state that no history gave, and one with other numbers than the counts
+    cases.event("pool, given state", &POOL, &state(&[5, 0, 9], &[7]), 2);
+}
+
+/// States with every kind of fault.
+fn faulty_states(cases: &mut Cases) {
+    let mut check = |fault: &str, bytes: &[u8]| {
+        for call in [Call::Record, Call::Judge, Call::Known] {
+            cases.add(&format!("state with {fault}, call {}", call as u32), &POOL, bytes, call, 1, ROOM);
+        }
+    };
+    check("edition 0", &[0x00, 0x03, 0x00, 0x00, 0x00, 0x01, 0x03]);
+    check("edition 2", &[0x02, 0x03, 0x00, 0x00, 0x00, 0x01, 0x03]);
+    check("two places", &[0x01, 0x02, 0x00, 0x00, 0x01, 0x03]);
+    check("four places", &state(&[0, 0, 0, 0], &[3]));
+    check("no group", &state(&[0, 0, 0], &[]));
+    check("two groups", &state(&[0, 0, 0], &[3, 0]));
+    check("estimate 65535", &state(&[65_535, 0, 0], &[3]));
+    check("estimate 65536", &state(&[65_536, 0, 0], &[3]));
+    check("unplaced 65535", &state(&[0, 0, 0], &[65_535]));
+    check("unplaced 65536", &state(&[0, 0, 0], &[65_536]));
+    check("a longer form", &[0x01, 0x03, 0x80, 0x00, 0x00, 0x00, 0x01, 0x03]);
+    check("a byte more", &[0x01, 0x03, 0x00, 0x00, 0x00, 0x01, 0x03, 0x00]);
+    for length in 0..POOL_STATE.len() {
+        check(&format!("{length} bytes"), &POOL_STATE[..length]);
+    }
+}
+
+/// "taking 2 from place 1 is impossible, though 5 less 2 is 3"
+fn nested(cases: &mut Cases) {
+    let nested = net(
+        &[1, 2],
+        &[(0, 5), (1, 4)],
+        &[&[(1, 2, 0)], &[(1, 1, 0)], &[(2, 4, 0)], &[(2, 5, 0)], &[(1, 1, 0), (2, 4, 0)]],
+        &[(3, &[(1, 1), (2, 1)])],
+    );
+    cases.course("nested", &nested, &[1, 4, 5, 2, 3]);
+    cases.course("nested, one by one", &nested, &[2, 3, 1]);
+    for (estimates, unplaced) in [([0, 0], [5, 6]), ([0, 0], [4, 4]), ([1, 4], [0, 0]), ([0, 0], [0, 0])] {
+        cases.event(&format!("nested at {unplaced:?}"), &nested, &state(&estimates, &unplaced), 2);
+    }
+}
+
+/// An estimate that comes to 65,535, and then out of range.
+fn filling(cases: &mut Cases) {
+    let filling = net(
+        &[1, 0],
+        &[(0, 3)],
+        &[&[(1, 0, 255)], &[(1, 0, 1)], &[(2, 1, 255)]],
+        &[(65_535, &[(1, 1)])],
+    );
+    for estimate in [65_279, 65_280, 65_281, 65_534, 65_535] {
+        for event in 1..=3 {
+            cases.event(&format!("filling at {estimate}"), &filling, &state(&[estimate, estimate], &[3]), event);
+        }
+    }
+}
+
+/// No group: every place is loose.
+fn loose(cases: &mut Cases) {
+    let loose = net(
+        &[0, 0],
+        &[],
+        &[&[(1, 255, 0), (2, 0, 1)], &[(1, 0, 1)], &[(2, 1, 0)]],
+        &[(10, &[(1, -1)]), (0, &[(2, 1)]), (-5, &[(1, -2), (2, -1)])],
+    );
+    cases.course("loose", &loose, &[1, 2, 3, 3]);
+    cases.event("loose at the limit", &loose, &state(&[9, 65_535], &[]), 1);
+}
+
+fn empty_groups(cases: &mut Cases) {
+    let empty = net(
+        &[2, 0, 4],
+        &[(0, 7), (1, 7), (0, 0), (0, 2)],
+        &[&[(1, 3, 1)], &[(3, 2, 0)]],
+        &[(9, &[(1, 2), (3, -1)])],
+    );
+    cases.course("empty groups", &empty, &[1, 2, 1, 1]);
+    cases.event("a remainder without place", &empty, &state(&[0, 0, 0], &[7, 6, 0, 2]), 1);
+    cases.event("a remainder in an empty group", &empty, &state(&[0, 0, 0], &[7, 7, 1, 2]), 1);
+}
+
+fn depth(cases: &mut Cases) {
+    let groups: Vec<(usize, u32)> = (0..8).map(|i| (i, 8 - i as u32)).collect();
+    let deep = net(
+        &[1, 2, 3, 4, 5, 6, 7, 8],
+        &groups,
+        &[&[(8, 1, 0)], &[(1, 1, 0)], &[(1, 1, 0), (4, 1, 0), (8, 1, 0)], &[(2, 2, 0)]],
+        &[(3, &[(8, 5), (1, -1)])],
+    );
+    cases.course("depth 8", &deep, &[4, 1, 2, 3, 1]);
+}
+
+/// Judging: the estimate alone, the heaviest weight below 0, a ceiling that is passed already, the lowest of two limits.
+fn weights(cases: &mut Cases) {
+    let weights = net(
+        &[1, 1, 2, 2],
+        &[(0, 6), (0, 4)],
+        &[&[(1, 1, 0), (2, 0, 1)], &[(2, 1, 0), (1, 0, 1)], &[(3, 1, 2)], &[(4, 2, 0)], &[]],
+        &[
+            (5, &[(1, 1), (2, 2)]),
+            (-9, &[(3, -3), (4, -2)]),
+            (0, &[(1, 1), (2, 1), (3, 1), (4, 1)]),
+            (-1_000_000_000, &[(1, 1000)]),
+            (1_000_000_000, &[(4, -1000)]),
+        ],
+    );
+    for (estimates, unplaced) in [
+        ([0, 0, 0, 0], [6, 4]),
+        ([3, 0, 0, 2], [3, 2]),
+        ([0, 3, 4, 0], [0, 0]),
+        ([6, 0, 1, 0], [0, 3]),
+        ([65_535, 9, 9, 9], [65_535, 65_535]),
+    ] {
+        for event in 1..=5 {
+            cases.event(&format!("weights at {estimates:?} {unplaced:?}"), &weights, &state(&estimates, &unplaced), event);
+        }
+    }
+}
+
+/// A description that is refused, with a state and an event that would be too.
+fn refused_descriptions(cases: &mut Cases) {
+    let group_beside = [0x02, 0x01, 0x03, 0x03, 0x00, 0x01, 0x00, 0x02, 0x00, 0x03, 0x01, 0x01, 0x00];
+    for (refusal, d) in [
+        (1, POOL[..38].to_vec()),
+        (2, [&[0x02], &POOL[1..]].concat()),
+        (3, [&[0x01, 0x41], &POOL[2..]].concat()),
+        (4, [&POOL[..38], &[0x80, 0x20]].concat()),
+        (5, [&POOL[..38], &[0x00]].concat()),
+        (6, [&POOL[..7], &[0x02, 0x00, 0x01, 0x00, 0x02], &POOL[14..]].concat()),
+        (7, [&POOL[..4], &group_beside, &POOL[14..]].concat()),
+        (8, [&POOL[..], &[0x00]].concat()),
+    ] {
+        for call in [Call::Fresh, Call::Record, Call::Judge, Call::Known] {
+            cases.add(&format!("description refused {refusal}, call {}", call as u32), &d, &[0x07], call, 0, 0);
+        }
+    }
+}
+
+/// Nets of many shapes.
+fn many_shapes(cases: &mut Cases) {
+    let mut random = Random(20_261_115);
+    for number in 0..60 {
+        let (places, events, groups) = (1 + random.below(9), 1 + random.below(4), random.below(6));
+        let limits = random.below(4);
+        let (net, state) = random.net_and_state(places, events, groups, limits);
+        let (label, d, s) = (format!("net {number}"), described(&net), write_state(&state));
+        for event in 1..=events {
+            cases.event(&label, &d, &s, event);
+        }
+        cases.known(&label, &d, &s);
+    }
+}

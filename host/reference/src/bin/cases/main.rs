@@ -1,0 +1,61 @@
+//! Writes the list of cases that the program `cases` reads, and what it must print: `cases STDIN STDOUT`.
+//!
+//! A case is a label, a description and a state, each after its length as a stored number, then the call, the event and the
+//! room. The answers are those of the reference.
+
+mod answers;
+mod calls;
+mod descriptions;
+mod parts;
+mod random;
+
+use reference::number::put_number;
+use std::fmt::Write;
+
+/// The program has no room for a longer list.
+const LONGEST: usize = 131_072;
+
+/// What a case asks.
+#[derive(Clone, Copy)]
+enum Call {
+    Fresh = 1,
+    Record,
+    Judge,
+    Known,
+    /// What the description is read as.
+    Describe,
+    /// How the description is refused with each value of one byte; the event is its position, from 0.
+    Changed,
+}
+
+/// The list of cases so far, and a line for each.
+#[derive(Default)]
+struct Cases {
+    input: Vec<u8>,
+    output: String,
+}
+
+impl Cases {
+    /// A case, and the line that answers it.
+    fn add(&mut self, label: &str, d: &[u8], s: &[u8], call: Call, event: u32, room: u32) {
+        for part in [label.as_bytes(), d, s] {
+            put_number(&mut self.input, part.len() as u32);
+            self.input.extend_from_slice(part);
+        }
+        for n in [call as u32, event, room] {
+            put_number(&mut self.input, n);
+        }
+        writeln!(self.output, "{label}:{}", answers::said(d, s, call, event, room)).unwrap();
+    }
+}
+
+fn main() {
+    let mut cases = Cases::default();
+    descriptions::add(&mut cases);
+    calls::add(&mut cases);
+    let mut files = std::env::args().skip(1);
+    let mut file = || files.next().expect("cases STDIN STDOUT");
+    assert!(cases.input.len() <= LONGEST, "{} bytes", cases.input.len());
+    std::fs::write(file(), cases.input).expect("a file that can be written");
+    std::fs::write(file(), cases.output).expect("a file that can be written");
+}
