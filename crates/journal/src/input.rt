@@ -2,6 +2,7 @@
 use libc::STDIN_FILENO;
 use net::Checked;
 use numbers::Read;
+use numbers::refusals;
 ghost use mathlib.Core.Path.{_≡_};
 ghost use mathlib.Core.List.{List};
 ghost use Prim.Native.Nat.{ℕ, _+_, _≤_};
@@ -31,7 +32,7 @@ pub fn find_description(space: &mut [u8]) -> Found
 {
     let held = fill(space, 0, NUMBER);
     let Next::Number(length, start) = next_number(&space[0..held], 0) else {
-        return Found::Refused(1);
+        return Found::Refused(refusals::ILL_FORMED);
     };
     let length = length as usize;
     let room = space.len() - start;
@@ -41,7 +42,7 @@ pub fn find_description(space: &mut [u8]) -> Found
     let end = start + length;
     let held = fill(space, held, end);
     if held < end {
-        return Found::Refused(1);
+        return Found::Refused(refusals::ILL_FORMED);
     }
     Found::At(start, end, held)
 }

@@ -6,6 +6,8 @@ ghost use lib.ListN.{length, getD};
 ghost use Rattle.numbers.specs.Number.{form, numberAt, writtenAt, writeAt};
 ghost use Rattle.numbers.specs.Signed.{stored, signed};
 
+pub mod refusals;
+
 // What stands at a position: a number and the position after it, or no stored number.
 pub enum Read {
     Number(u32, usize),

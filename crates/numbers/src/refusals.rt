@@ -1,0 +1,28 @@
+// The numbers of the refusals: which of 01's "Questions put in turn" was answered no.
+
+// "Is each stored number complete, shortest and small enough?"
+pub const ILL_FORMED: u32 = 1;
+// "Is the description's edition 1?"
+pub const OTHER_EDITION: u32 = 2;
+// "Are sizes, list lengths, groups and depth within bounds (arcs and terms at most P)?"
+pub const OUT_OF_BOUNDS: u32 = 3;
+// "Is each mark, place number and value within its range?"
+pub const OUT_OF_RANGE: u32 = 4;
+// "Do members, arcs and terms keep their order and the no-zero rules?"
+pub const OUT_OF_ORDER: u32 = 5;
+// "Does each place appear exactly once?"
+pub const NOT_ONCE: u32 = 6;
+// "Is each own share at least 0, and 0 for a group with no direct place?"
+pub const UNFIT_SHARE: u32 = 7;
+// "Do the bytes end with the description?"
+pub const BYTES_LEFT: u32 = 8;
+// "Is the state well formed (its edition, same number rules, no byte left) and fitting?"
+pub const UNFIT_STATE: u32 = 9;
+// "Is the event number 1 to T?"
+pub const NO_EVENT: u32 = 10;
+// "Is the event possible?"
+pub const IMPOSSIBLE: u32 = 11;
+// "Is it in range?"
+pub const OVER_RANGE: u32 = 12;
+// "Does the result fit the lent output?"
+pub const NO_ROOM: u32 = 13;
