@@ -66,22 +66,6 @@ pub form-step : (n : ℕ) → 128 ≤ n → n < 2 ^ 35 → form n ≡ (128 + n %
 unfolding form
 form-step n h b = groups-step 3 n h ∙ ap (λ (l : List ℕ). (128 + n % 128) ∷ l) (sym (groups-more 3 (n / 128) (omega arith)))
 
--- each element of a form is a byte
-pub form-bytes : (n i : ℕ) → n < 2 ^ 35 → getD (form n) i 0 < 256
-unfolding form
-form-bytes n i b = groups-induction Bytes last step 4 n b i
-  where
-    Bytes : ℕ → List ℕ → Type 0
-    Bytes n l = (i : ℕ) → getD l i 0 < 256
-
-    last : (n : ℕ) → n < 128 → Bytes n (n ∷ [])
-    last n h zero = omega arith
-    last n h (suc i) = omega arith
-
-    step : (n : ℕ) (rest : List ℕ) → 128 ≤ n → Bytes (n / 128) rest → Bytes n ((128 + n % 128) ∷ rest)
-    step n rest h bytes zero = omega arith
-    step n rest h bytes (suc i) = bytes i
-
 -- ---- the length of a form
 
 groups-length-bounds : (k n : ℕ) → (1 ≤ length (groups k n)) × (length (groups k n) ≤ suc k)
@@ -257,9 +241,6 @@ write-read bytes n size e =
     let read = small-inverse (front bytes) n size e in
     let exactly = front-groups bytes 4 n size (read .0) (omega arith) in
     (read .1, exactly .0, exactly .1)
-
-pub form-injective : (m n : ℕ) → m ≤ largest → n ≤ largest → form m ≡ form n → m ≡ n
-form-injective m n hm hn e = cc (read-write m [] hm, read-write n [] hn)
 
 -- ---- at a position
 

@@ -39,6 +39,3 @@ pub stored-small : (z : ℤ) → (stored z ≤ largest) ↔ (mag z < 2 ^ 31)
 unfolding stored
 stored-small (pos n) = omega arith
 stored-small (negsuc n) = omega arith
-
-pub signed-small : (n : ℕ) → (n ≤ largest) ↔ (mag (signed n) < 2 ^ 31)
-signed-small n = rw (stored-signed n) at (stored-small (signed n))
