@@ -5,9 +5,9 @@ use crate::words::decimal;
 use crate::words::numbered;
 use crate::words::put;
 use crate::words::refused;
+use codec::Wrote;
 use net::Checked;
 use net::Net;
-use numbers::Wrote;
 ghost use Prim.Native.Nat.{_<_};
 
 pub fn describe(d: &[u8]) {

@@ -1,10 +1,10 @@
 // Answers in words, to standard output.
 use crate::input::first;
+use codec::Wrote;
 use libc::STDOUT_FILENO;
 use net::Answer;
 use net::Known;
 use net::Verdict;
-use numbers::Wrote;
 
 pub fn written(wrote: Wrote, out: &[u8]) {
     match wrote {

@@ -1,9 +1,8 @@
 -- The numbers that the host gets for answers (01, "Bytes": "the host's functions take only numbers and byte slices"; docs/DECISIONS.md, point 8).
-pub mod Laws
 use Prim.Native.Nat.{ℕ, _<_, _^_}
 use lib.IntN.{ℤ, pos, negℤ}
-use Rattle.numbers.specs.declared.Wrote.{Wrote}
-use Rattle.numbers.specs.declared.Wrote.the-variants as Wrote
+use Rattle.codec.specs.declared.Wrote.{Wrote}
+use Rattle.codec.specs.declared.Wrote.the-variants as Wrote
 use Rattle.net.specs.declared.Verdict.{Verdict}
 use Rattle.net.specs.declared.Verdict.the-variants.{Allow, Hold}
 use Rattle.net.specs.declared.Answer.{Answer}

@@ -1,22 +1,22 @@
 // The host's functions: the observer's calls on bytes as C calls them (include/yarrowbeam.h). An
 // answer is one number: what 01 has for it, or minus the number of a refusal.
+use codec::Wrote;
 use net::Answer;
 use net::Known;
 use net::Verdict;
-use numbers::Wrote;
 ghost use mathlib.Core.Path.{_≡_};
 ghost use lib.ListN.{length};
-ghost use Rattle.numbers.specs.Output.{answer, left};
-ghost use Rattle.net.specs.Answers.{answerOf};
-ghost use Rattle.observer.specs.Bytes.{freshOutput, recordOutput, knownOutput, judgeOutput};
+ghost use Rattle.codec.specs.Output.{answer, left};
+ghost use Rattle.net.specs.Answers.{answerOf, knownOf};
+ghost use Rattle.observer.specs.Bytes.{freshReply, recordReply, knownReply, judgeReply};
 ghost use Rattle.host.specs.Numbers.{Countable, refusalNumber, wroteNumber, answerNumber, knownNumber};
 
 // Writes the fresh state of the net that the bytes describe, where it fits the output: the number of
 // bytes. A refusal writes nothing.
 #[no_mangle]
 pub extern "C" fn fresh(d: &[u8], out: &mut [u8]) -> i64
-    ensures { λ r. ⌜ r ≡ wroteNumber (answer (length (now (out .entry))) (freshOutput (now (d .entry)))) ⌝ }
-    ensures { λ _. ⌜ now (out .exit) ≡ left (now (out .entry)) (freshOutput (now (d .entry))) ⌝ }
+    ensures { λ r. ⌜ r ≡ wroteNumber (answer (length (now (out .entry))) (freshReply (now (d .entry)))) ⌝ }
+    ensures { λ _. ⌜ now (out .exit) ≡ left (now (out .entry)) (freshReply (now (d .entry))) ⌝ }
 {
     let wrote = observer::fresh(d, out);
     wrote_number(wrote)
@@ -26,8 +26,8 @@ pub extern "C" fn fresh(d: &[u8], out: &mut [u8]) -> i64
 // others are, where it fits the output: the number of bytes. A refusal writes nothing.
 #[no_mangle]
 pub extern "C" fn record<'a>(d: &'a [u8], s: &'a [u8], event: u32, out: &mut [u8]) -> i64
-    ensures { λ r. ⌜ r ≡ wroteNumber (answer (length (now (out .entry))) (recordOutput (now (d .entry)) (now (s .entry)) event)) ⌝ }
-    ensures { λ _. ⌜ now (out .exit) ≡ left (now (out .entry)) (recordOutput (now (d .entry)) (now (s .entry)) event) ⌝ }
+    ensures { λ r. ⌜ r ≡ wroteNumber (answer (length (now (out .entry))) (recordReply (now (d .entry)) (now (s .entry)) event)) ⌝ }
+    ensures { λ _. ⌜ now (out .exit) ≡ left (now (out .entry)) (recordReply (now (d .entry)) (now (s .entry)) event) ⌝ }
 {
     let wrote = observer::record(d, s, event, out);
     wrote_number(wrote)
@@ -36,7 +36,7 @@ pub extern "C" fn record<'a>(d: &'a [u8], s: &'a [u8], event: u32, out: &mut [u8
 // Judges an event: 0 where it is allowed, the number of the limit that holds it where it is held.
 #[no_mangle]
 pub extern "C" fn judge<'a>(d: &'a [u8], s: &'a [u8], event: u32) -> i64
-    ensures { λ r. ⌜ r ≡ answerNumber (answerOf (judgeOutput (now (d .entry)) (now (s .entry)) event)) ⌝ }
+    ensures { λ r. ⌜ r ≡ answerNumber (answerOf (judgeReply (now (d .entry)) (now (s .entry)) event)) ⌝ }
 {
     let answer = observer::judge(d, s, event);
     match answer {
@@ -51,7 +51,7 @@ pub extern "C" fn judge<'a>(d: &'a [u8], s: &'a [u8], event: u32) -> i64
 // Does the observer know where all tokens are? 1 or 0.
 #[no_mangle]
 pub extern "C" fn known<'a>(d: &'a [u8], s: &'a [u8]) -> i64
-    ensures { λ r. ⌜ r ≡ knownNumber (knownOutput (now (d .entry)) (now (s .entry))) ⌝ }
+    ensures { λ r. ⌜ r ≡ knownNumber (knownOf (knownReply (now (d .entry)) (now (s .entry)))) ⌝ }
 {
     let known = observer::known(d, s);
     match known {

@@ -5,14 +5,11 @@ use mathlib.Core.List.{List, _++_}
 use lib.ListN.{length}
 use Rattle.numbers.specs.declared.Read.the-variants as Read
 use Rattle.numbers.specs.Number.{numberAt}
+pub use Rattle.numbers.specs.Number.{longestNumber}
 use Rattle.journal.specs.declared.input.Found.{Found}
 use Rattle.journal.specs.declared.input.Found.the-variants.{At, Refused}
 use Rattle.journal.specs.declared.input.Next.{Next}
 use Rattle.journal.specs.declared.input.Next.the-variants.{Number, IllFormed, Short}
-
--- "groups of seven bits .. at most 4,294,967,295": no number has more bytes
-abbrev pub longestNumber : ℕ
-longestNumber = 5
 
 -- "the event, the word, limit or refusal number or 0, the estimates, the unplaced numbers, one space between, newline": 98 numbers of at most
 -- 10 digits, and 106 bytes beside them

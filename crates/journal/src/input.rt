@@ -1,8 +1,8 @@
 // Standard input by way of a buffer, whose first bytes are what was read.
+use codec::refusals;
 use libc::STDIN_FILENO;
 use net::Checked;
 use numbers::Read;
-use numbers::refusals;
 ghost use mathlib.Core.Path.{_≡_};
 ghost use mathlib.Core.List.{List};
 ghost use Prim.Native.Nat.{ℕ, _+_, _≤_};

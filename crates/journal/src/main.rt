@@ -133,7 +133,7 @@ fn read_more(space: &mut [u8], at: usize, left: usize, next: Next) -> usize
 
 // The observer after an event, a held one too, or the same where the event is refused.
 fn recorded(net: Net, observer: Observer, event: u32) -> Observer
-    ensures { λ r. ⌜ r ≡ kept (recordedObserver net observer event .checked) (recordedObserver net observer event .observer) observer ⌝ }
+    ensures { λ r. ⌜ r ≡ kept (recordedObserver net observer event) observer ⌝ }
 {
     let observed = values::record_event(net, observer, event);
     let checked = observed.checked;

@@ -1,3 +1,5 @@
 -- Laws that the proofs of the code cite.
+pub mod Number
+pub mod Signed
 pub mod Reading
 pub mod Writing

@@ -9,7 +9,7 @@ use mathlib.Core.Bool.{cond}
 use lib.ListN.{length, drop, getD, drop-of-length-le}
 use lib.Dec.{eqb}
 use Rattle.numbers.specs.Number.{largest, Found, found, nothing, before, front, small, after, number, numberAt}
-use Rattle.numbers.specs.Number.Laws.{front-last, front-step, before-found, front-next}
+use Rattle.numbers.proofs.Number.{front-last, front-step, before-found, front-next}
 use Rattle.numbers.specs.declared.Read.the-variants.{Number, Nothing}
 
 -- ---- at the first byte

@@ -8,7 +8,7 @@ use borrow.Author.Tests.{le-leb, lt-leb}
 use lib.ListN.{length, set, length-set}
 use lib.Seq.{sets, sets-eq}
 use Rattle.numbers.specs.Number.{form, room, writtenAt, writeAt}
-use Rattle.numbers.specs.Number.Laws.{form-last, form-step, form-length-bounds}
+use Rattle.numbers.proofs.Number.{form-last, form-step, form-length-bounds}
 use Rattle.numbers.specs.declared.Written.the-variants.{Next, Full}
 
 -- there is no room, and nothing is stored

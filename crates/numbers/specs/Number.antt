@@ -1,5 +1,4 @@
 -- Stored numbers: their bytes, and what stands at a position of a byte list (01, "Bytes").
-pub mod Laws
 use Prim.Native.Nat.{ℕ, zero, suc, _+_, _-_, _*_, _/_, _%_}
 use mathlib.Core.List.{List, [], _∷_, _++_}
 use mathlib.Core.Bool.{Bool, cond}
@@ -13,6 +12,10 @@ use Rattle.numbers.specs.declared.Written.the-variants.{Next, Full}
 -- "at most 4,294,967,295"
 abbrev pub largest : ℕ
 largest = 4294967295
+
+-- "groups of seven bits": no number has more bytes
+abbrev pub longestNumber : ℕ
+longestNumber = 5
 
 -- ---- the bytes of a number
 

@@ -1,5 +1,4 @@
 -- Signed numbers as stored ones (01, "Bytes").
-pub mod Laws
 use Prim.Native.Nat.{ℕ, suc, _-_, _*_, _/_, _%_}
 use mathlib.Core.Bool.{cond}
 use lib.IntN.{ℤ, pos, negsuc}

@@ -6,8 +6,6 @@ ghost use lib.ListN.{length, getD};
 ghost use Rattle.numbers.specs.Number.{form, numberAt, writtenAt, writeAt};
 ghost use Rattle.numbers.specs.Signed.{stored, signed};
 
-pub mod refusals;
-
 // What stands at a position: a number and the position after it, or no stored number.
 pub enum Read {
     Number(u32, usize),
@@ -18,18 +16,6 @@ pub enum Read {
 pub enum Written {
     Next(usize),
     Full,
-}
-
-// How far a reader came that keeps what it read elsewhere: the position after it, or its refusal.
-pub enum Passed {
-    To(usize),
-    Refused(u32),
-}
-
-// The answer of a call that writes: the number of bytes written, or its refusal.
-pub enum Wrote {
-    Bytes(usize),
-    Refused(u32),
 }
 
 // "at most 4,294,967,295"

@@ -1,7 +1,2 @@
 pub mod Lists
-pub mod Bytes
-pub mod Refusals
-pub mod Values
 pub mod Promises
-pub mod Examples
-pub mod Host

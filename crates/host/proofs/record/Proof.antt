@@ -3,7 +3,7 @@ use mathlib.Core.Path.{ap, _∙_}
 use borrow.Author.Needs.{needs, sfits-of}
 use denote.Ref.{now}
 use mir.Facts.{toZ-ofZ}
-use Rattle.observer.specs.Bytes.{recordOutput}
+use Rattle.observer.specs.Bytes.{recordReply}
 use Rattle.host.specs.Numbers.{wroteNumber}
 use Rattle.host.proofs.Answering.{countable}
 use Rattle.host.proofs.record.Statement.{statement}
@@ -16,7 +16,7 @@ wrote-number-requires : tie.Need-wrote-number-requires
 wrote-number-requires c κs =
     let call = c .before .before in
     let start = call .before .before .before .before .before in
-    countable _ (recordOutput (now (start .args .d)) (now (start .args .s)) (start .args .event)) (start .good .1 .1 .1 .0 .1) (call .«record» .ensures .0)
+    countable _ (recordReply (now (start .args .d)) (now (start .args .s)) (start .args .event)) (start .good .1 .1 .1 .0 .1) (call .«record» .ensures .0)
 
 same-length : tie.Need-same-length
 same-length c = search needs

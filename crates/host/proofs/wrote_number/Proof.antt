@@ -4,7 +4,7 @@ use mathlib.Core.Path.{sym, ap, _∙_, subst}
 use borrow.Author.Needs.{needs, sfits-of}
 use mir.Syntax.{w64}
 use mir.Facts.{toZ-pos, toZ-ofZ}
-use Rattle.numbers.specs.declared.Wrote.{Wrote}
+use Rattle.codec.specs.declared.Wrote.{Wrote}
 use Rattle.host.specs.Numbers.{Countable, wroteNumber}
 use Rattle.host.proofs.wrote_number.Statement.{statement}
 use Rattle.host.proofs.wrote_number.Tie as tie

@@ -8,7 +8,7 @@ use lib.ListN.{length}
 use lib.Pow.{pow-mono, pow-add}
 use lib.Count.{leadingZeros, leading-le, leading-top}
 use Rattle.numbers.specs.Number.{form}
-use Rattle.numbers.specs.Number.Laws.{form-last, form-length-is}
+use Rattle.numbers.proofs.Number.{form-last, form-length-is}
 use Rattle.numbers.proofs.number_length.Statement.{statement}
 use Rattle.numbers.proofs.number_length.Tie as tie
 

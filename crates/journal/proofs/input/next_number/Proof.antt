@@ -3,7 +3,7 @@ use mathlib.Core.Path.{sym, _∙_}
 use native.Mathlib.Omega.{arith}
 use borrow.Author.Needs.{needs}
 use denote.Ref.{now}
-use Rattle.numbers.specs.Number.Laws.{number-within}
+use Rattle.numbers.proofs.Number.{number-within}
 use Rattle.journal.proofs.Reading.{number-early, number-late}
 use Rattle.journal.proofs.input.next_number.Statement.{statement}
 use Rattle.journal.proofs.input.next_number.Tie as tie

@@ -1,0 +1,23 @@
+-- Lists made from those at the places below a bound, by the last one.
+use Prim.Native.Nat.{ℕ, zero, suc}
+use mathlib.Core.Bool.{cond}
+use mathlib.Core.List.{List, [], _∷_, _++_}
+use lib.Dec.{ltb}
+
+-- f 0, .., f (n - 1), one after the other
+unfoldable pub joined : {A : Type 0} → ℕ → (ℕ → List A) → List A
+joined zero f = []
+joined (suc n) f = joined n f ++ f n
+
+-- the elements at the places below n
+abbrev pub listed : {A : Type 0} → ℕ → (ℕ → A) → List A
+listed n f = joined n (λ i. f i ∷ [])
+
+-- so many numbers, of which the first n are those of f and the others 0
+abbrev pub firstOf : ℕ → ℕ → (ℕ → ℕ) → List ℕ
+firstOf size n f = listed size (λ i. cond (ltb i n) (f i) 0)
+
+-- each element is of a kind
+abbrev pub Each : {A : Type 0} → (A → Type 0) → List A → Type 0
+Each P [] = Unit
+Each P (a ∷ l) = P a × Each P l

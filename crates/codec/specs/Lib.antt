@@ -1,0 +1,4 @@
+pub mod Reader
+pub mod Joined
+pub mod Output
+pub mod Walk

@@ -1,0 +1,77 @@
+-- The ten proved cases of 01 ("The pool of three"), over the definitions that the contracts cite.
+use Prim.Native.Nat.{ℕ}
+use mathlib.Core.Path.{_≡_, refl}
+use mathlib.Core.List.{List, [], _∷_, map}
+use lib.IntN.{negsuc}
+use Rattle.theory.specs.Sums.{sum, sumℤ, every, direct}
+use Rattle.theory.specs.Nets.{inside, among, own, inner, gathered, less, share}
+use Rattle.theory.specs.Placement.{heaviestPlace}
+use Rattle.theory.specs.Recording.{fresh, raise, raises, moved, possible, next, inRange, unplaced, known}
+use Rattle.theory.specs.Judging.{limitSum, change, heaviest, amount, top, holds}
+use Rattle.theory.specs.Replies.{Reply, value, refusal}
+use Rattle.theory.specs.Answers.{ask, Verdict, allow, hold, lowest, recorded, judged}
+use Rattle.theory.specs.Calls.{recording, begin, call, standingFrom, standing}
+use Rattle.numbers.specs.Number.{form, groups}
+use Rattle.numbers.specs.Number as Stored
+use Rattle.numbers.specs.Signed.{stored, signed}
+use Rattle.codec.specs.Reader.{Result, no, number, many, end}
+use Rattle.codec.specs.Joined.{joined}
+use mathlib.Core.Bool.{Bool, true}
+use Rattle.net.specs.Check.{shared, shareFits, hasPlace}
+use Rattle.members.specs.Members.{place, innerGroups, members, memberList, group, outermost}
+use Rattle.rows.specs.Rows.{entries, row, risingPlace, filled, arc, event, signedWithin, term, limit}
+use Rattle.description.specs.Grammar.{head, limitsToEnd, parts}
+use Rattle.description.specs.Examples.{poolBytes}
+use Rattle.states.specs.States as States
+use Rattle.states.specs.States.{values, saved, stateFrom, state}
+use Rattle.states.specs.States.Writing.{valuesBytes, stateBytes}
+use Rattle.observer.specs.Bytes.{freshReply, recordReply, judgeReply, knownReply}
+use Rattle.promises.specs.Lists.{host}
+
+-- the state's bytes after these events are recorded, one after the other; each state takes seven bytes
+abbrev pub after : List ℕ → List ℕ
+after numbers = host poolBytes (map (λ n. recording n 7) numbers) .state
+
+-- ---- cases
+
+-- what is computed, and what it should be
+pub data Shown : Type 0 where
+  bytes : List ℕ → Shown
+  read : Result ℕ → Shown
+  verdict : Reply Verdict → Shown
+  known-and-verdict : Reply Bool → Reply Verdict → Shown
+
+infix 70 _is_
+pub data Case : Type 0 where
+  _is_ : Shown → Shown → Case
+
+abbrev pub computed : Case → Shown
+computed (a is b) = a
+
+abbrev pub expected : Case → Shown
+expected (a is b) = b
+
+-- "numbers 127 `7F`, 128 `80 01`, 65,535 `FF FF 03`; signed -1 `01`; `80 00` refused 1; fresh, event 2 held by 1; fresh, event 3 allowed; after
+-- event 1, event 2 held; after 1, 1, event 2 allowed; after 1, 1, 1 known, and event 1 impossible"
+unfoldable pub cases : List Case
+cases =
+    bytes (form 127) is bytes (0x7F ∷ [])
+    ∷ bytes (form 128) is bytes (0x80 ∷ 0x01 ∷ [])
+    ∷ bytes (form 65535) is bytes (0xFF ∷ 0xFF ∷ 0x03 ∷ [])
+    ∷ bytes (form (stored (negsuc 0))) is bytes (0x01 ∷ [])
+    ∷ read (number (0x80 ∷ 0x00 ∷ [])) is read (no 1)
+    ∷ verdict (judgeReply poolBytes (after []) 2) is verdict (value (hold 1))
+    ∷ verdict (judgeReply poolBytes (after []) 3) is verdict (value allow)
+    ∷ verdict (judgeReply poolBytes (after (1 ∷ [])) 2) is verdict (value (hold 1))
+    ∷ verdict (judgeReply poolBytes (after (1 ∷ 1 ∷ [])) 2) is verdict (value allow)
+    ∷ known-and-verdict (knownReply poolBytes (after (1 ∷ 1 ∷ 1 ∷ []))) (judgeReply poolBytes (after (1 ∷ 1 ∷ 1 ∷ [])) 1) is known-and-verdict (value true) (refusal 11)
+    ∷ []
+
+pub cases-hold : map computed cases ≡ map expected cases
+unfolding cases poolBytes form groups stored number Stored.number Stored.front Stored.before Stored.small many end signed
+    freshReply recordReply judgeReply knownReply standing standingFrom begin call
+    place innerGroups members memberList group outermost entries row risingPlace filled arc event signedWithin term limit head limitsToEnd parts
+    shared shareFits hasPlace States.value values saved stateFrom state valuesBytes stateBytes joined
+    ask recorded judged lowest holds fresh share less inner possible raises raise own direct sum every next moved inRange change sumℤ heaviest heaviestPlace
+    top limitSum amount known unplaced gathered among inside
+cases-hold = refl

@@ -1,0 +1,99 @@
+-- The answers that demand 3 speaks of are told in the calls' own words exactly when they are the replies.
+use Prim.Native.Nat.{ℕ, suc}
+use mathlib.Core.Path.{_≡_, ap}
+use mathlib.Core.List.{List}
+use mathlib.Core.Logic.{_↔_}
+use native.Mathlib.Omega.{arith}
+use lib.IntN.{pos}
+use Rattle.theory.specs.Replies.{Reply, value, refusal}
+use Rattle.theory.specs.Answers.{Verdict, allow, hold}
+use Rattle.theory.proofs.Answers.{clash}
+use Rattle.theory.proofs.Exact.{replies, Retold, retold}
+use Rattle.theory.specs.Nets.{Net, Marking}
+use Rattle.theory.specs.Demands.{Answered, Demand3}
+use Rattle.theory.specs.Demands as Demands
+use Rattle.codec.specs.declared.Wrote.{Wrote}
+use Rattle.codec.specs.declared.Wrote.the-variants as Wrote
+use Rattle.codec.specs.Output.{wroteOf}
+use Rattle.net.specs.declared.Observer.{Observer}
+use Rattle.net.specs.declared.Checked.the-variants as Checked
+use Rattle.net.specs.declared.Verdict.the-variants.{Allow, Hold}
+use Rattle.net.specs.declared.Answer.{Answer}
+use Rattle.net.specs.declared.Answer.the-variants.{Given, Refused}
+use Rattle.net.specs.Answers.{answerOf}
+use Rattle.net.specs.Observers.{observedOf}
+use Rattle.host.specs.Numbers.{wroteNumber, answerNumber}
+use Rattle.host.proofs.Numbers.{wrote-refused, judge-refused, judge-held, judge-allowed}
+use Rattle.promises.specs.Promises.{onBytesTold, onValuesTold, hostTold}
+
+-- ---- judging
+
+refused-iff : (j : Reply Verdict) (n : ℕ) → (answerOf j ≡ Refused n) ↔ (j ≡ refusal n)
+refused-iff (value v) n = ((λ e. clash (cc)), (λ e. clash (cc)))
+refused-iff (refusal k) n = ((λ e. cc), (λ e. cc))
+
+held-iff : (j : Reply Verdict) (l : ℕ) → (answerOf j ≡ Given (Hold l)) ↔ (j ≡ value (hold l))
+held-iff (value allow) l = ((λ e. clash (cc)), (λ e. clash (cc)))
+held-iff (value (hold k)) l = ((λ e. cc), (λ e. cc))
+held-iff (refusal k) l = ((λ e. clash (cc)), (λ e. clash (cc)))
+
+allowed-iff : (j : Reply Verdict) → (answerOf j ≡ Given Allow) ↔ (j ≡ value allow)
+allowed-iff (value allow) = ((λ e. cc), (λ e. cc))
+allowed-iff (value (hold k)) = ((λ e. clash (cc)), (λ e. clash (cc)))
+allowed-iff (refusal k) = ((λ e. clash (cc)), (λ e. clash (cc)))
+
+-- ---- recording
+
+wrote-iff : (r : Reply (List ℕ)) (n : ℕ) → (wroteOf r ≡ Wrote.Refused n) ↔ (r ≡ refusal n)
+wrote-iff (value b) n = ((λ e. clash (cc)), (λ e. clash (cc)))
+wrote-iff (refusal k) n = ((λ e. cc), (λ e. cc))
+
+observed-iff : (r : Reply Observer) (n : ℕ) → (observedOf r .checked ≡ Checked.Refused n) ↔ (r ≡ refusal n)
+observed-iff (value b) n = ((λ e. clash (cc)), (λ e. clash (cc)))
+observed-iff (refusal k) n = ((λ e. cc), (λ e. cc))
+
+-- ---- in the calls' words
+
+pub bytes-told : (r : Reply (List ℕ)) (j : Reply Verdict) → Retold (replies (List ℕ)) onBytesTold r j (wroteOf r) (answerOf j)
+bytes-told r j =
+    record {
+      rejected = λ n l. wrote-iff r (suc n);
+      refused = λ n. refused-iff j (suc n);
+      held = λ l. held-iff j (suc l);
+      allowed = allowed-iff j;
+    }
+
+pub values-told : (r : Reply Observer) (j : Reply Verdict) → Retold (replies Observer) onValuesTold r j (observedOf r .checked) (answerOf j)
+values-told r j =
+    record {
+      rejected = λ n l. observed-iff r (suc n);
+      refused = λ n. refused-iff j (suc n);
+      held = λ l. held-iff j (suc l);
+      allowed = allowed-iff j;
+    }
+
+-- and in the host's numbers: no refusal and no limit that an event from 1 to T is answered with has the number 0
+pub in-numbers : {net : Net} {M : Marking → Type 0} {after : ℕ → ℕ} {e : ℕ} {w : Wrote} {a : Answer}
+    → Demand3 onBytesTold net M after e w a → Demand3 hostTold net M after e (wroteNumber w) (answerNumber a)
+in-numbers {w = w} {a = a} d = retold same d
+  where
+    no-refusal : Answered onBytesTold a → (n : ℕ) → a ≡ Refused n → n ≡ 0 → ⊥
+    no-refusal (Demands.allowed u) n v z = clash (cc)
+    no-refusal (Demands.held l u) n v z = clash (cc)
+    no-refusal (Demands.cannot u) n v z = let here : 11 ≡ n = cc in omega arith
+    no-refusal (Demands.above u) n v z = let here : 12 ≡ n = cc in omega arith
+
+    no-hold : Answered onBytesTold a → (l : ℕ) → a ≡ Given (Hold l) → l ≡ 0 → ⊥
+    no-hold (Demands.allowed u) l v z = clash (cc)
+    no-hold (Demands.held k u) l v z = let here : suc k ≡ l = cc in omega arith
+    no-hold (Demands.cannot u) l v z = clash (cc)
+    no-hold (Demands.above u) l v z = clash (cc)
+
+    same : Retold onBytesTold hostTold w a (wroteNumber w) (answerNumber a)
+    same =
+        record {
+          rejected = λ n l. wrote-refused w n;
+          refused = λ n. judge-refused a n;
+          held = λ l. judge-held a l;
+          allowed = judge-allowed a (no-refusal (d .judgeAnswered)) (no-hold (d .judgeAnswered));
+        }

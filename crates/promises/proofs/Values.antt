@@ -1,0 +1,192 @@
+-- The calls on values do what the theory's do: the observer is that of the theory's state.
+use Prim.Native.Nat.{ℕ, suc, _-_, _<_}
+use mathlib.Core.Path.{_≡_, refl, sym, ap, _∙_, subst}
+use mathlib.Core.Bool.{true}
+use mathlib.Core.List.{List}
+use mathlib.Core.Logic.{_↔_, Iff·trans}
+use native.Mathlib.Omega.{arith}
+use lib.ListN.{length}
+use Rattle.theory.specs.Nets.{Marking}
+use Rattle.theory.specs.Firing.{Same, Consistent}
+use Rattle.theory.specs.Recording.{State, Alike, Within, fresh, next, known, published}
+use Rattle.theory.proofs.Recording.{next-iff}
+use Rattle.theory.specs.Replies.{Reply, value, refusal, _>>=_}
+use Rattle.theory.specs.Answers.{ask, recorded, judged}
+use Rattle.theory.proofs.Answers.{clash, record-yes, then-no, then-yes}
+use Rattle.theory.proofs.Alike.{alike-sym, ask-alike, next-alike, judge-alike, within-alike}
+use Rattle.theory.proofs.Known.{known-only}
+use Rattle.theory.proofs.Exact.{retold}
+use Rattle.theory.proofs.Exact as Exact
+use Rattle.theory.proofs.Faithful as Faithful
+use Rattle.theory.specs.Calls.{Call}
+use Rattle.theory.specs.Demands.{Demand3}
+use Rattle.theory.proofs.Lists.{Tied, both, neither, Ties, Kept, kept-standing, tied-told, safe-standing}
+use Rattle.theory.proofs.Lists as Lists
+use Rattle.codec.proofs.Joined.{length-listed}
+use Rattle.net.specs.declared.Net.{Net}
+use Rattle.net.specs.declared.Observer.{Observer}
+use Rattle.net.specs.declared.Checked.the-variants.{Good}
+use Rattle.net.specs.Bounds.{mostPlaces, mostGroups}
+use Rattle.net.specs.View.{groupsOf, netOf}
+use Rattle.net.specs.Check.{netCheck}
+use Rattle.net.specs.Check.Laws.{well-formed, good-net}
+use Rattle.net.specs.Answers.{answerOf}
+use Rattle.net.specs.Observers.{stateOf, observerOf, observedOf, freshObserver}
+use Rattle.states.specs.States.Writing.{Fit}
+use Rattle.states.specs.States.Nets.{saved}
+use Rattle.states.specs.States.Nets.Laws.{fit-next, fit-fresh}
+use Rattle.values.specs.Values.{bothCheck, restoredObserver, observerOutput, recordedObserver, observerJudged, observerKnown}
+use Rattle.values.specs.Values.Laws.{before, both-good, both-passed, output-is, same-observer, state-observer, state-fits, write-read}
+use Rattle.promises.specs.Lists.{bytesOf, onValues, memory}
+use Rattle.promises.specs.Promises.{onValuesTold, estimateAfter, ListsOnValues, Leaves, StateOnValues}
+use Rattle.promises.proofs.Told.{values-told}
+use Rattle.promises.proofs.Bytes.{fit-fitting}
+
+-- an observer of a state that fits
+pub record ObserverOf (net : Net) (o : Observer) (s : State) : Type 0 where
+  pub is : o ≡ observerOf net s
+  pub fit : Fit (net .places) (groupsOf net) s
+
+-- ---- at an observer that fits the net
+
+module _ (net : Net) (o : Observer) (met : bothCheck net o ≡ value tt) where
+  checked : netCheck net ≡ Good
+  checked = both-passed net o met .0
+
+  fit : Fit (net .places) (groupsOf net) (stateOf o)
+  fit = state-fits net checked o (both-passed net o met .1)
+
+  recorded-is : (number : ℕ) → recordedObserver net o number ≡ (recorded (netOf net) (stateOf o) number >>= λ t. value (observerOf net t))
+  unfolding recordedObserver
+  recorded-is number = rw met
+
+  judged-is : (number : ℕ) → observerJudged net o number ≡ judged (netOf net) (stateOf o) number
+  unfolding observerJudged
+  judged-is number = rw met
+
+  -- recording leaves the observer of the theory's next state
+  record-tied : (number : ℕ) → Tied (ObserverOf net) (recordedObserver net o number) (recorded (netOf net) (stateOf o) number)
+  record-tied number = rw (recorded-is number) (go (recorded (netOf net) (stateOf o) number) refl)
+    where
+      go : (r : Reply State) → recorded (netOf net) (stateOf o) number ≡ r → Tied (ObserverOf net) (r >>= λ t. value (observerOf net t)) r
+      go (refusal n) u = neither n
+      go (value t) u =
+          let found = record-yes (netOf net) (stateOf o) number t u in
+          both (observerOf net t) t (record { is = refl; fit = rw (found .2) (fit-next (netOf net) (found .0) fit (found .1 .range)) })
+
+  state-demand-3 : (e : ℕ) → e < net .events
+      → Demand3 onValuesTold (netOf net) (Within (netOf net) (stateOf o)) (next (netOf net) (stateOf o) e .estimate) e
+      (observedOf (recordedObserver net o (suc e)) .checked) (answerOf (observerJudged net o (suc e)))
+  state-demand-3 e l =
+      retold (values-told (recordedObserver net o (suc e)) (observerJudged net o (suc e)))
+      (retold (tied-told (record-tied (suc e)) (judged-is (suc e)))
+      (Exact.demand-3 (netOf net) (good-net net checked) (stateOf o) (Within (netOf net) (stateOf o))
+      (record { fitting = fit-fitting (netOf net) fit; sound = λ m w. w; complete = λ m w. w })
+      (next (netOf net) (stateOf o) e .estimate) e (λ t p q. refl) l))
+
+  state-recorded : (number : ℕ) (after : Observer) → recordedObserver net o number ≡ value after → Leaves (netOf net) (stateOf o) number (stateOf after)
+  state-recorded number after u =
+      let left = then-yes (observerOf net) (recorded (netOf net) (stateOf o) number) after (sym (recorded-is number) ∙ u) in
+      let found = record-yes (netOf net) (stateOf o) number (left .0) (left .1) in
+      let is : after ≡ observerOf net (next (netOf net) (stateOf o) (found .0)) = left .2 ∙ ap (observerOf net) (found .2) in
+      let alike : Alike (netOf net) (stateOf after) (next (netOf net) (stateOf o) (found .0))
+      = subst (λ (z : Observer). Alike (netOf net) (stateOf z) (next (netOf net) (stateOf o) (found .0))) (sym is)
+      (state-observer net checked (next (netOf net) (stateOf o) (found .0)) (fit-next (netOf net) (found .0) fit (found .1 .range))) in
+      record {
+        event = found .0;
+        numbered = found .1 .index;
+        next = alike;
+        consistent = λ m. Iff·trans
+            (within-alike (netOf net) alike m, within-alike (netOf net) (alike-sym (netOf net) alike) m)
+            (next-iff (netOf net) (stateOf o) (found .0) (found .1 .can) m);
+      }
+
+  state-known : observerKnown net o ≡ value true → (m : Marking) → Within (netOf net) (stateOf o) m ↔ Same (netOf net) (stateOf o .estimate) m
+  unfolding observerKnown
+  state-known u =
+      let yes : known (netOf net) (stateOf o) ≡ true = (let v : value (known (netOf net) (stateOf o)) ≡ value true = rw met at u in cc) in
+      known-only (netOf net) (good-net net checked) (stateOf o) (fit-fitting (netOf net) fit) yes
+
+  pub state-on-values : StateOnValues net o
+  state-on-values = record { demand-3 = state-demand-3; recorded = state-recorded; known = state-known }
+
+-- ---- after a list
+
+module _ (net : Net) (checked : netCheck net ≡ Good) where
+  fresh-is : observedOf (freshObserver net) .observer ≡ observerOf net (fresh (netOf net))
+  unfolding freshObserver
+  fresh-is = rw checked
+
+  -- recording at an observer of a state is recording at the state
+  same-tied : (s : State) → Fit (net .places) (groupsOf net) s → (number : ℕ)
+      → Tied (ObserverOf net) (recordedObserver net (observerOf net s) number) (recorded (netOf net) s number)
+  unfolding recordedObserver recorded
+  same-tied s fit number =
+      rw (both-good net checked s fit, ask-alike (netOf net) (state-observer net checked s fit) number) (go (recorded (netOf net) s number) refl)
+    where
+      go : (r : Reply State) → recorded (netOf net) s number ≡ r
+          → Tied (ObserverOf net) ((ask (netOf net) s number >>= λ e. value (next (netOf net) (stateOf (observerOf net s)) e)) >>= λ t. value (observerOf net t))
+          (ask (netOf net) s number >>= λ e. value (next (netOf net) s e))
+      go (refusal n) u =
+          let asked = then-no (next (netOf net) s) (ask (netOf net) s number) n .0 u in
+          rw asked (neither n)
+      go (value t) u =
+          let found = record-yes (netOf net) s number t u in
+          let asked = then-yes (next (netOf net) s) (ask (netOf net) s number) t u in
+          rw (asked .1) (both _ _ (record {
+            is = same-observer net checked (next-alike (netOf net) (state-observer net checked s fit) (asked .0));
+            fit = rw (← asked .2, found .2) (fit-next (netOf net) (found .0) fit (found .1 .range));
+          }))
+
+  same-judged : (s : State) → Fit (net .places) (groupsOf net) s → (number : ℕ) → observerJudged net (observerOf net s) number ≡ judged (netOf net) s number
+  unfolding observerJudged
+  same-judged s fit number = rw (both-good net checked s fit) (judge-alike (netOf net) (state-observer net checked s fit) number)
+
+  restored-back : (s : State) → Fit (net .places) (groupsOf net) s
+      → restoredObserver net (bytesOf (observerOutput net (observerOf net s))) ≡ value (observerOf net s)
+  restored-back s fit =
+      let out = output-is net checked s fit in
+      rw (out, write-read net (observerOf net s) (saved (netOf net) s) estimates-long remainders-long out)
+    where
+      estimates-long : length (observerOf net s .estimates) ≡ mostPlaces
+      estimates-long = unfold observerOf in length-listed mostPlaces _
+
+      remainders-long : length (observerOf net s .remainders) ≡ mostGroups
+      remainders-long = unfold observerOf in length-listed mostGroups _
+
+  -- the calls on values are tied to the theory's
+  pub ties : Ties (netOf net) (onValues net) (ObserverOf net)
+  ties =
+      let well = well-formed net checked in
+      record {
+        begins = record {
+          is = fresh-is;
+          fit = fit-fresh (netOf net) (well .good) (λ i l. rw (before net checked i) (well .valued .counts .small i (omega (arith, well .sized .groups))));
+        };
+        records = λ o s of number room. rw (of .is) (same-tied s (of .fit) number);
+        judges = λ o s of number. rw (of .is) (same-judged s (of .fit) number);
+        restores = λ o s of. record { state = observerOf net s; read = rw (of .is) (restored-back s (of .fit)); tied = record { is = refl; fit = of .fit } };
+      }
+
+  module _ (list : List Call) where
+    kept : Kept (netOf net) (onValues net) (ObserverOf net) (memory net list)
+    kept = kept-standing (good-net net checked) ties list
+
+    alike : Alike (netOf net) (stateOf (memory net list .state)) (kept .state)
+    alike = rw (kept .tied .is) (state-observer net checked (kept .state) (kept .tied .fit))
+
+    fits : bothCheck net (memory net list .state) ≡ value tt
+    fits = rw (kept .tied .is) (both-good net checked (kept .state) (kept .tied .fit))
+
+    pub list-on-values : ListsOnValues net list
+    list-on-values =
+        record {
+          demand-2 = Faithful.alike-demand-2 (netOf net) (good-net net checked) (kept .state) (memory net list .deeds) (kept .faithful) (stateOf (memory net list .state)) alike;
+          demand-3 = λ e l.
+              retold (values-told (recordedObserver net (memory net list .state) (suc e)) (observerJudged net (memory net list .state) (suc e)))
+              (Lists.demand-3 (good-net net checked) ties (memory net list) kept 0 e l);
+          known = λ u m.
+              Faithful.known-consistent (netOf net) (good-net net checked) (kept .state) (memory net list .deeds) (kept .faithful)
+              (stateOf (memory net list .state)) alike m (state-known net (memory net list .state) fits u m);
+          stays = safe-standing (good-net net checked) ties list;
+        }

@@ -1,0 +1,36 @@
+-- The names that the promises use, from where they are defined.
+pub use Prim.Native.Nat.{ℕ, zero, suc, _+_, _*_, _≤_, _<_}
+pub use mathlib.Core.Path.{_≡_}
+pub use mathlib.Core.Bool.{Bool, true}
+pub use mathlib.Core.List.{List, [], _∷_, _++_}
+pub use mathlib.Core.Logic.{_↔_, _⊎_}
+pub use lib.IntN.{ℤ, pos}
+pub use lib.ListN.{length, drop}
+pub use Rattle.theory.specs.Nets.{Marking, Fits}
+pub use Rattle.theory.specs.Firing.{Deed, fired, Same, Fires, Consistent, Able, FiredTo}
+pub use Rattle.theory.specs.Recording.{State, Alike, Within, fresh, next, published}
+pub use Rattle.theory.specs.Replies.{Reply, value, refusal, _>>=_}
+pub use Rattle.theory.specs.Calls.{Call, AllAllowed}
+pub use Rattle.theory.specs.Demands.{Demand2, Possible, Words, Demand3, WithinLimits, Stays}
+pub use Rattle.codec.specs.declared.Wrote.{Wrote}
+pub use Rattle.codec.specs.declared.Wrote.the-variants.{Bytes}
+pub use Rattle.codec.specs.Output.{answer, left}
+pub use Rattle.net.specs.declared.Net.{Net}
+pub use Rattle.net.specs.declared.Observer.{Observer}
+pub use Rattle.net.specs.declared.Checked.{Checked}
+pub use Rattle.net.specs.declared.Checked.the-variants.{Good}
+pub use Rattle.net.specs.declared.Verdict.the-variants.{Allow, Hold}
+pub use Rattle.net.specs.declared.Answer.{Answer}
+pub use Rattle.net.specs.declared.Answer.the-variants.{Given}
+pub use Rattle.net.specs.Bounds.{mostPlaces, mostGroups}
+pub use Rattle.net.specs.View.{netOf}
+pub use Rattle.net.specs.Check.{netCheck}
+pub use Rattle.net.specs.Answers.{answerOf}
+pub use Rattle.net.specs.Observers.{stateOf, observedOf, freshObserver}
+pub use Rattle.description.specs.Read.{descriptionRead}
+pub use Rattle.description.specs.Writing.{written}
+pub use Rattle.states.specs.States.Nets.{saved}
+pub use Rattle.observer.specs.Bytes.{described, stateIn, freshReply, recordReply, judgeReply, knownReply}
+pub use Rattle.values.specs.Values.{bothCheck, restoredObserver, observerOutput, recordedObserver, observerJudged, observerKnown, observerUnplaced}
+pub use Rattle.host.specs.Numbers.{refusalNumber, wroteNumber, answerNumber}
+pub use Rattle.promises.specs.Lists.{onBytes, host, onValues, memory}
