@@ -20,12 +20,21 @@
  *     12  the event is possible, and some estimate after it would be above 65,535
  *     13  the result does not fit the output
  *
- * The first that applies, in this order, is answered; a call skips those that do not concern it.
+ * Of 1 to 8, the description's bytes are read forwards: the first fault that is met is answered, and of several at one
+ * number the lowest. So the bytes 01 41 answer 3, for 65 places, though the number after them is missing. Then 9 to 13
+ * follow in order. A call skips those that do not concern it.
  *
  * What the host owes:
- *   - a pointer is not null, also where the length is 0; all bytes below the length can be read (of `out`: and written);
- *   - `out` overlaps neither d nor s. (d and s are only read.)
- * A call writes nothing but the first bytes of `out`, as many as it answers; a refusal writes nothing.
+ *   - All bytes below a length can be read (of `out`: and written), and nobody else writes them during the call. Where the
+ *     length is 0 the pointer may be null.
+ *   - `out` overlaps neither d nor s; but `record` reads all before it writes anything, so its `out` may be s itself: the
+ *     same pointer, and the two lengths may differ.
+ *
+ * What the host can count on:
+ *   - A call writes nothing but the first bytes of `out`, as many as it answers; a refusal writes nothing.
+ *   - Calls may run in several threads at a time, also on the same description and state, since no call keeps anything.
+ *   - No call uses the heap, and none more than YARROWBEAM_LARGEST_STACK bytes of stack. (Where the dynamic linker finds
+ *     memcpy or memset only when it is first called, the linker's own share comes on top of that once.)
  *
  * The names are those of the static library, target/staticlib/libhost.a, which `rt staticlib host` makes.
  */
@@ -38,6 +47,9 @@
 /* The lengths of the largest description and of the largest state: a buffer of so many bytes is enough for any. */
 #define YARROWBEAM_LARGEST_DESCRIPTION 24005
 #define YARROWBEAM_LARGEST_STATE 291
+
+/* The most bytes of stack that a call uses: 6 KiB. */
+#define YARROWBEAM_LARGEST_STACK 6144
 
 #ifdef __cplusplus
 extern "C" {

@@ -1,36 +1,26 @@
-//! The proved observer, by the functions of include/yarrowbeam.h.
+//! The proved observer, by the crate `yarrowbeam`; the answers as the numbers of include/yarrowbeam.h.
 
-mod library {
-    extern "C" {
-        pub fn fresh(d: *const u8, d_length: usize, out: *mut u8, out_length: usize) -> i64;
-        pub fn record(
-            d: *const u8,
-            d_length: usize,
-            s: *const u8,
-            s_length: usize,
-            event: u32,
-            out: *mut u8,
-            out_length: usize,
-        ) -> i64;
-        pub fn judge(d: *const u8, d_length: usize, s: *const u8, s_length: usize, event: u32) -> i64;
-        pub fn known(d: *const u8, d_length: usize, s: *const u8, s_length: usize) -> i64;
-    }
+use yarrowbeam::{Refusal, Verdict};
+
+fn number<T>(answer: Result<T, Refusal>, accepted: impl Fn(T) -> i64) -> i64 {
+    answer.map_or_else(|refusal| -i64::from(refusal.number()), accepted)
 }
 
-// A slice's pointer is never null, and a `&mut` overlaps nothing: that is all that the library asks.
-
 pub fn fresh(d: &[u8], out: &mut [u8]) -> i64 {
-    unsafe { library::fresh(d.as_ptr(), d.len(), out.as_mut_ptr(), out.len()) }
+    number(yarrowbeam::fresh(d, out), |count| count as i64)
 }
 
 pub fn record(d: &[u8], s: &[u8], event: u32, out: &mut [u8]) -> i64 {
-    unsafe { library::record(d.as_ptr(), d.len(), s.as_ptr(), s.len(), event, out.as_mut_ptr(), out.len()) }
+    number(yarrowbeam::record(d, s, event, out), |count| count as i64)
 }
 
 pub fn judge(d: &[u8], s: &[u8], event: u32) -> i64 {
-    unsafe { library::judge(d.as_ptr(), d.len(), s.as_ptr(), s.len(), event) }
+    number(yarrowbeam::judge(d, s, event), |verdict| match verdict {
+        Verdict::Allow => 0,
+        Verdict::Hold(limit) => i64::from(limit),
+    })
 }
 
 pub fn known(d: &[u8], s: &[u8]) -> i64 {
-    unsafe { library::known(d.as_ptr(), d.len(), s.as_ptr(), s.len()) }
+    number(yarrowbeam::known(d, s), i64::from)
 }

@@ -1,6 +1,8 @@
-//! The host's calls beside two observers in Rust, in one process, by turns. Prints the tables of docs/PERFORMANCE.md.
+//! The host's calls beside two observers in Rust, in one process, by turns; and the journal beside that of the reference, in
+//! processes of their own. Prints the tables of docs/PERFORMANCE.md; with the word `journal` only that of the journal.
 
 mod host;
+mod journal;
 mod nets;
 mod plain;
 mod stack;
@@ -219,12 +221,17 @@ fn stacks(case: &Case) {
         });
         println!("| {} | {} | {} | {} |", observer.name, touched[0], touched[1], touched[2]);
     }
+    println!();
 }
 
 fn main() {
+    if std::env::args().any(|word| word == "journal") {
+        return journal::speeds(&nets::rounds());
+    }
     let cases = nets::all();
     alike(&cases);
     time(&cases);
     growth(&nets::growing());
     stacks(&cases[2]);
+    journal::speeds(&nets::rounds());
 }

@@ -29,7 +29,15 @@ pub struct Case {
     pub event: u32,
 }
 
+/// A description, and events that can be gone through round after round: each round leaves the state as the one before it did.
+pub struct Round {
+    pub name: &'static str,
+    pub d: Vec<u8>,
+    pub events: Vec<u32>,
+}
+
 /// How a net is made. Groups stand in chains as deep as said, with the places dealt out among them.
+#[derive(Clone, Copy)]
 struct Shape {
     name: &'static str,
     places: usize,
@@ -47,6 +55,8 @@ struct Shape {
     gives: (u32, u32),
     weights: (u32, u32),
     ceiling: i64,
+    /// Each second event undoes the one before it.
+    paired: bool,
     /// The events 1 to this one have been recorded; the next one is asked for.
     recorded: u32,
 }
@@ -66,6 +76,7 @@ const MIDDLE: Shape = Shape {
     gives: (1, 3),
     weights: (1, 20),
     ceiling: 100_000,
+    paired: false,
     recorded: 3,
 };
 
@@ -84,6 +95,7 @@ const LARGEST: Shape = Shape {
     gives: (128, 255),
     weights: (65, 1_000),
     ceiling: 1_000_000_000,
+    paired: false,
     recorded: 3,
 };
 
@@ -118,6 +130,9 @@ fn net(shape: &Shape) -> Net {
             let p = (e + i) % shape.places;
             takes[p] = numbers.within(shape.takes.0, shape.takes.1);
             gives[p] = numbers.within(shape.gives.0, shape.gives.1);
+        }
+        if shape.paired && e % 2 == 1 {
+            (takes, gives) = (net.gives[e - 1].clone(), net.takes[e - 1].clone());
         }
         net.takes.push(takes);
         net.gives.push(gives);
@@ -215,4 +230,16 @@ pub fn all() -> Vec<Case> {
         assert_eq!(plain::judge(&case.d, &case.s, case.event), 0, "{}: every limit is weighed", case.name);
     }
     all
+}
+
+/// The rounds of the journal: the list of the scope document and then the tokens back to place 1; and all events of the middle
+/// and the largest net, paired, and one number that is none of theirs.
+pub fn rounds() -> [Round; 3] {
+    let round = |shape: Shape| Round {
+        name: shape.name,
+        d: reference::write_description(&net(&Shape { paired: true, ..shape })),
+        events: (1..=shape.events as u32 + 1).collect(),
+    };
+    let pool = Round { name: "the pool of three", d: POOL.to_vec(), events: vec![1, 1, 2, 1, 1, 2, 2, 3, 3, 3] };
+    [pool, round(MIDDLE), round(LARGEST)]
 }

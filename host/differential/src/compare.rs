@@ -1,8 +1,10 @@
 //! One case: every call through the library beside the reference.
 
-use crate::met::{Kind, Met, Room};
-use crate::numbers::Numbers;
+use crate::kinds::{count_sizes, Kind, Of, Room};
 use reference::{read_description, read_state, write_state};
+use seeded::hex;
+use seeded::met::Met;
+use seeded::numbers::Numbers;
 use std::hint::black_box;
 use yarrowbeam::{Refusal, LARGEST_STATE};
 
@@ -46,7 +48,7 @@ struct Expected {
     known: Answer,
 }
 
-fn expected(case: &Case, met: &mut Met) -> Expected {
+fn expected(case: &Case, met: &mut Met<Of>) -> Expected {
     let refused = |refusal| Expected {
         fresh: Err(refusal),
         record: Err(refusal),
@@ -57,14 +59,14 @@ fn expected(case: &Case, met: &mut Met) -> Expected {
         Ok(net) => net,
         Err(refusal) => return refused(refusal),
     };
-    met.count_sizes(&net);
-    met.count("description", Kind::Size(case.description.len(), "bytes"));
+    count_sizes(&net, met);
+    met.count(Of("description", Kind::Size(case.description.len(), "bytes")));
     let fresh = Ok(write_state(&reference::fresh(&net)));
     let state = match read_state(&net, &case.state) {
         Ok(state) => state,
         Err(refusal) => return Expected { fresh, ..refused(refusal) },
     };
-    met.count("state", Kind::Size(case.state.len(), "bytes"));
+    met.count(Of("state", Kind::Size(case.state.len(), "bytes")));
     Expected {
         fresh,
         record: reference::record(&net, &state, case.event).map(|after| write_state(&after)),
@@ -110,7 +112,7 @@ impl Lent {
 }
 
 /// Makes every call and compares its answer and all bytes with what the reference says; the first difference, in words.
-pub fn compare(case: &Case, numbers: &mut Numbers, met: &mut Met) -> Result<(), String> {
+pub fn compare(case: &Case, numbers: &mut Numbers, met: &mut Met<Of>) -> Result<(), String> {
     let expected = expected(case, met);
     let inputs = [Lent::new(&case.description, numbers), Lent::new(&case.state, numbers)];
     let [d, s] = [inputs[0].bytes(), inputs[1].bytes()];
@@ -124,7 +126,7 @@ pub fn compare(case: &Case, numbers: &mut Numbers, met: &mut Met) -> Result<(), 
 struct Calls<'a> {
     inputs: &'a [Lent; 2],
     numbers: &'a mut Numbers,
-    met: &'a mut Met,
+    met: &'a mut Met<Of>,
 }
 
 impl Calls<'_> {
@@ -136,7 +138,7 @@ impl Calls<'_> {
         if !self.inputs.iter().all(|input| input.has(&[])) {
             return Err(format!("{call} changed its inputs"));
         }
-        self.met.count(call, expected.kind());
+        self.met.count(Of(call, expected.kind()));
         Ok(())
     }
 
@@ -158,7 +160,7 @@ impl Calls<'_> {
             _ => length,
         };
         if expected.is_ok() {
-            self.met.count(call, Kind::Room(Room::of(room, length)));
+            self.met.count(Of(call, Kind::Room(Room::of(room, length))));
         }
         let expected = expected.and_then(|bytes| if bytes.len() <= room { Ok(bytes) } else { Err(13) });
         let (answer, first) = match &expected {
@@ -174,8 +176,4 @@ impl Calls<'_> {
         }
         Ok(())
     }
-}
-
-pub fn hex(bytes: &[u8]) -> String {
-    bytes.iter().map(|byte| format!("{byte:02X}")).collect::<Vec<_>>().join(" ")
 }

@@ -4,16 +4,15 @@
 //! and size was met; exits with 1 at the first difference, or where one of them was never met.
 
 mod compare;
-mod damage;
-mod met;
-mod nets;
-mod numbers;
+mod kinds;
 
-use compare::{compare, hex, Case};
-use damage::damaged;
-use met::Met;
-use numbers::Numbers;
+use compare::{compare, Case};
+use kinds::{due, Of};
 use reference::{write_description, write_state, Net, State};
+use seeded::damage::damaged;
+use seeded::met::Met;
+use seeded::numbers::Numbers;
+use seeded::{hex, nets};
 use std::panic::{catch_unwind, AssertUnwindSafe};
 use std::process::ExitCode;
 
@@ -46,7 +45,7 @@ fn case(net: &Net, state: &State, event: u32, numbers: &mut Numbers) -> Case {
     Case { description, state: bytes, event }
 }
 
-fn run(cases: u64, seed: u64, met: &mut Met) -> Result<(), String> {
+fn run(cases: u64, seed: u64, met: &mut Met<Of>) -> Result<(), String> {
     let mut numbers = Numbers(seed);
     for first in (0..cases).step_by(CASES_OF_A_NET) {
         let net = nets::net(&mut numbers);
@@ -89,7 +88,7 @@ fn main() -> ExitCode {
         eprintln!("{difference}");
         return ExitCode::FAILURE;
     }
-    let never = met.print();
+    let never = met.print(due());
     println!("total: {cases} cases, {} calls, no difference", 4 * cases);
     if !never.is_empty() {
         eprintln!("never met: {}", never.join(", "));

@@ -157,6 +157,15 @@ fn quiet(net: &Net, shape: &Shape, numbers: &mut Numbers) -> Limit {
     Limit { ceiling: 1_000_000_000, weights }
 }
 
+/// How deep the deepest group is; 0 where there is none.
+pub fn deepest(net: &Net) -> usize {
+    let mut depths = vec![0];
+    for group in &net.groups {
+        depths.push(depths[group.around] + 1);
+    }
+    depths.into_iter().max().unwrap_or(0)
+}
+
 /// A state that fits the net and that perhaps no history gave.
 pub fn state(net: &Net, numbers: &mut Numbers) -> State {
     let longest = numbers.one_in(8);

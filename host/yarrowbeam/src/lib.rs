@@ -3,8 +3,9 @@
 //! A description says what the net is, a saved state what is known of it. Both are bytes; README.md shows them for one net.
 //! No call keeps anything: the caller keeps the description and the state that the last accepted call wrote.
 //!
-//! Every call ends on every input, and refuses bytes that are no description, no state or no event. A call writes nothing but
-//! the first bytes of `out`, as many as it answers; a refusal writes nothing.
+//! Every call ends on every input, and refuses bytes that are no description, no state or no event; [`Refusal`] says which
+//! refusal comes first. A call writes nothing but the first bytes of `out`, as many as it answers; a refusal writes nothing.
+//! Calls may run in several threads at a time; none uses the heap, or more than [`LARGEST_STACK`] bytes of stack.
 //!
 //! The pool of three: three places in one group of 3, events that move a token from place 1 to 2, 2 to 3 and 3 to 1, and a
 //! limit that allows two in place 3.
@@ -44,6 +45,9 @@ pub const LARGEST_DESCRIPTION: usize = 24_005;
 /// The length of the largest state: an output of so many bytes is enough for any.
 pub const LARGEST_STATE: usize = 291;
 
+/// The most bytes of stack that the library uses in a call.
+pub const LARGEST_STACK: usize = 6_144;
+
 /// What judging says of an event.
 #[derive(Clone, Copy, Debug, PartialEq, Eq, Hash)]
 pub enum Verdict {
@@ -54,17 +58,20 @@ pub enum Verdict {
 }
 
 /// Writes the fresh state of the net. Answers the number of bytes written, or refusal 1 to 8 or 13.
+#[inline]
 pub fn fresh(description: &[u8], out: &mut [u8]) -> Result<usize, Refusal> {
     written(library::fresh(description, out))
 }
 
 /// Writes the state after an event, counted from 1. Recording does not judge: a held event is recorded too. Answers the number
 /// of bytes written, or refusal 1 to 13.
+#[inline]
 pub fn record(description: &[u8], state: &[u8], event: u32, out: &mut [u8]) -> Result<usize, Refusal> {
     written(library::record(description, state, event, out))
 }
 
 /// Judges an event, counted from 1. Answers the verdict, or refusal 1 to 12.
+#[inline]
 pub fn judge(description: &[u8], state: &[u8], event: u32) -> Result<Verdict, Refusal> {
     Ok(match accepted(library::judge(description, state, event))? {
         0 => Verdict::Allow,
@@ -73,16 +80,19 @@ pub fn judge(description: &[u8], state: &[u8], event: u32) -> Result<Verdict, Re
 }
 
 /// Is it known where all tokens are? Or refusal 1 to 9.
+#[inline]
 pub fn known(description: &[u8], state: &[u8]) -> Result<bool, Refusal> {
     Ok(accepted(library::known(description, state))? == 1)
 }
 
 /// An answer from 0 up; one below 0 is a refusal, minus its number.
+#[inline]
 fn accepted(answer: i64) -> Result<u64, Refusal> {
     u64::try_from(answer).map_err(|_| Refusal::from_number(answer.unsigned_abs()))
 }
 
 /// A count of bytes, which is at most the length of the output and so a `usize`.
+#[inline]
 fn written(answer: i64) -> Result<usize, Refusal> {
     accepted(answer).map(|count| count as usize)
 }

@@ -1,7 +1,7 @@
 //! The functions of `include/yarrowbeam.h` on slices; their answers are still numbers.
 //!
-//! What they ask of a caller, slices give: a slice's pointer is not null, also where it is empty; all its bytes can be read, of
-//! a `&mut` one written too; and a `&mut` slice overlaps no other.
+//! What they ask of a caller, slices give: all bytes of a slice can be read, of a `&mut` one written too, and nobody else writes
+//! them; and a `&mut` slice overlaps no other.
 
 mod c {
     extern "C" {
@@ -20,21 +20,25 @@ mod c {
     }
 }
 
+#[inline]
 pub fn fresh(d: &[u8], out: &mut [u8]) -> i64 {
     // SAFETY: both are slices, and `out`, being `&mut`, does not overlap `d`.
     unsafe { c::fresh(d.as_ptr(), d.len(), out.as_mut_ptr(), out.len()) }
 }
 
+#[inline]
 pub fn record(d: &[u8], s: &[u8], event: u32, out: &mut [u8]) -> i64 {
     // SAFETY: all three are slices, and `out`, being `&mut`, overlaps neither `d` nor `s`; any event number may be asked for.
     unsafe { c::record(d.as_ptr(), d.len(), s.as_ptr(), s.len(), event, out.as_mut_ptr(), out.len()) }
 }
 
+#[inline]
 pub fn judge(d: &[u8], s: &[u8], event: u32) -> i64 {
     // SAFETY: both are slices, which are only read; any event number may be asked for.
     unsafe { c::judge(d.as_ptr(), d.len(), s.as_ptr(), s.len(), event) }
 }
 
+#[inline]
 pub fn known(d: &[u8], s: &[u8]) -> i64 {
     // SAFETY: both are slices, which are only read.
     unsafe { c::known(d.as_ptr(), d.len(), s.as_ptr(), s.len()) }

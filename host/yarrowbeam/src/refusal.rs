@@ -1,6 +1,9 @@
 use std::fmt;
 
-/// Why a call refuses. The first that applies, in this order, is answered; a call skips those that do not concern it.
+/// Why a call refuses.
+///
+/// Of 1 to 8, the description's bytes are read forwards: the first fault that is met is answered, and of several at one number
+/// the lowest. Then 9 to 13 follow in order. A call skips those that do not concern it.
 #[derive(Clone, Copy, Debug, PartialEq, Eq, PartialOrd, Ord, Hash)]
 pub enum Refusal {
     /// A stored number of the description is not complete, not in its shortest form or too large.
@@ -32,7 +35,7 @@ pub enum Refusal {
 }
 
 impl Refusal {
-    /// All refusals, in order.
+    /// All refusals, by number.
     pub const ALL: [Refusal; 13] = [
         Refusal::Number,
         Refusal::Edition,

@@ -54,6 +54,22 @@ fn refusals_of_descriptions() {
 }
 
 #[test]
+fn the_first_fault_that_is_met() {
+    // 65 places, and no number after them: 3 before 1
+    assert_eq!(fresh(&[0x01, 0x41], &mut []), Err(Refusal::Size));
+    assert_eq!(record(&[0x01, 0x41], &[], 0, &mut []), Err(Refusal::Size));
+    assert_eq!(judge(&[0x01, 0x41], &[], 0), Err(Refusal::Size));
+    assert_eq!(known(&[0x01, 0x41], &[]), Err(Refusal::Size));
+    // place 0 after place 1 is out of range and out of order: at one number the lowest
+    let mut description = POOL;
+    description[11] = 0;
+    assert_eq!(judge(&description, &FRESH, 1), Err(Refusal::Range));
+    // place 2 appears in two lists, and the number after it has no end: 6 before 1
+    let twice = [&POOL[..4], &[2, 0, 2], &POOL[5..12], &[0x80]].concat();
+    assert_eq!(judge(&twice, &FRESH, 1), Err(Refusal::Place));
+}
+
+#[test]
 fn refusals_of_states_events_and_rooms() {
     let placed = [1, 3, 0, 3, 0, 1, 0];
     let high = [1, 3, 0, 0xFF, 0xFF, 0x03, 0, 1, 3];

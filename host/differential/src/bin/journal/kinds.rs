@@ -1,0 +1,98 @@
+//! What the cases meet, in words, and what they must meet.
+
+use reference::number::Bytes;
+use reference::read_description;
+use seeded::met::Met;
+use seeded::nets::deepest;
+use std::ops::RangeInclusive;
+
+/// A description that is longer goes on past the program's buffer.
+pub const BUFFER: usize = 32_763;
+
+/// What an input and what is printed for it meet.
+pub fn count(input: &[u8], printed: &str, met: &mut Met<String>) {
+    for line in printed.lines() {
+        let words: Vec<&str> = line.split(' ').collect();
+        match words[..] {
+            [_, "allow", "0", ..] => met.count("line: allow".to_string()),
+            [_, word @ ("hold" | "refused"), number, ..] => met.count(format!("line: {word} {number}")),
+            _ => (),
+        }
+    }
+    let end = follow(input, met);
+    met.count(format!("end: {end}"));
+}
+
+/// Follows the input, counts what its parts are, and answers how it ends.
+fn follow(input: &[u8], met: &mut Met<String>) -> String {
+    let mut bytes = Bytes::new(input);
+    let Ok(length) = bytes.number() else { return format!("refused 1, the length is {}", fault(bytes.left)) };
+    let length = length as usize;
+    let past = |what: &str| format!("description past the buffer, {what}");
+    if length > bytes.left.len() {
+        if length > BUFFER {
+            met.count(past("the input ends in it"));
+        }
+        return "refused 1, the length is past the input".to_string();
+    }
+    let (description, events) = bytes.left.split_at(length);
+    let net = match read_description(description) {
+        Ok(net) => net,
+        Err(refusal) => {
+            if length > BUFFER {
+                met.count(past(if refusal == 8 { "whole before its end" } else { "refused before its end" }));
+            }
+            return format!("refused {refusal}, the description");
+        }
+    };
+    if !events.is_empty() {
+        met.count(format!("net: {}", ["no group", "one group", "several groups"][net.groups.len().min(2)]));
+        met.count(format!("net: {} deep", deepest(&net)));
+    }
+    let mut events = Bytes::new(events);
+    while !events.left.is_empty() {
+        let before = events.left.len();
+        let Ok(event) = events.number() else { return format!("refused 1, an event number is {}", fault(events.left)) };
+        met.count(format!("event number: {} bytes", before - events.left.len()));
+        if event == 0 {
+            met.count("event number: 0".to_string());
+        }
+        if event as usize == net.takes.len() + 1 {
+            met.count("event number: T + 1".to_string());
+        }
+    }
+    "silent".to_string()
+}
+
+/// Why no stored number stands at the start of these bytes, and whether others follow it.
+fn fault(bytes: &[u8]) -> String {
+    let Some(last) = bytes.iter().position(|byte| byte & 0x80 == 0) else { return "not complete".to_string() };
+    let fault = if last > 0 && bytes[last] == 0 { "not shortest" } else { "too large" };
+    format!("{fault}, {}", if last + 1 < bytes.len() { "in the middle" } else { "at the end" })
+}
+
+/// All that must be met, in the order in which it is printed.
+pub fn due() -> Vec<String> {
+    let ill_formed = ["not complete", "not shortest, in the middle", "too large, in the middle"];
+    let words = |of: &str, kinds: &[&str]| -> Vec<String> { kinds.iter().map(|kind| format!("{of}{kind}")).collect() };
+    let numbers = |of: &str, kinds: RangeInclusive<u32>, rest: &str| -> Vec<String> {
+        kinds.map(|number| format!("{of}{number}{rest}")).collect()
+    };
+    [
+        words("line: ", &["allow"]),
+        numbers("line: hold ", 1..=16, ""),
+        numbers("line: refused ", 10..=12, ""),
+        words("event number: ", &["0", "T + 1"]),
+        numbers("event number: ", 1..=5, " bytes"),
+        words("end: ", &["silent"]),
+        words("end: refused 1, the length is ", &["past the input"]),
+        words("end: refused 1, the length is ", &ill_formed),
+        numbers("end: refused ", 1..=8, ", the description"),
+        words("end: refused 1, an event number is ", &ill_formed),
+        words("end: refused 1, an event number is ", &["not shortest, at the end", "too large, at the end"]),
+        words("description past the buffer, ", &["refused before its end", "whole before its end", "the input ends in it"]),
+        words("net: ", &["no group", "one group", "several groups", "8 deep"]),
+        words("reads: ", &["one piece", "two pieces", "several pieces", "a byte each", "a pipe", "a line each"]),
+    ]
+    .concat()
+}

@@ -1,0 +1,284 @@
+/* What include/yarrowbeam.h promises beside the answers: the order of refusals, null pointers, recording in place, threads and
+ * the stack. Prints what breaks a promise. WITHOUT_STACK is for builds that are watched, since watching takes stack too. */
+#define _XOPEN_SOURCE 700
+#include <inttypes.h>
+#include <limits.h>
+#include <pthread.h>
+#include <stdio.h>
+#include <string.h>
+#include "yarrowbeam.h"
+
+static int broken;
+
+static void expect(const char *call, int64_t answer, int64_t expected) {
+    if (answer == expected) return;
+    printf("%s: %" PRId64 ", not %" PRId64 "\n", call, answer, expected);
+    broken = 1;
+}
+
+/* Expects the answer of a call, which is printed as it stands here. */
+#define ANSWERS(call, expected) expect(#call, call, expected)
+
+/* ---- the nets: the pool of three, and one whose groups are nested as deep as can be */
+
+typedef struct {
+    uint8_t d[YARROWBEAM_LARGEST_DESCRIPTION];
+    size_t length;
+    uint32_t events;
+} Net;
+
+static const uint8_t pool[] = {0x01, 0x03, 0x03, 0x01, 0x01, 0x01, 0x03, 0x03, 0x00, 0x01, 0x00, 0x02, 0x00,
+                               0x03, 0x02, 0x01, 0x01, 0x00, 0x02, 0x00, 0x01, 0x02, 0x02, 0x01, 0x00, 0x03,
+                               0x00, 0x01, 0x02, 0x01, 0x00, 0x01, 0x03, 0x01, 0x00, 0x04, 0x01, 0x03, 0x02};
+
+static void put(Net *net, uint32_t number) {
+    for (; number >= 128; number /= 128) net->d[net->length++] = (uint8_t)(number % 128 + 128);
+    net->d[net->length++] = (uint8_t)number;
+}
+
+static void put_all(Net *net, size_t count, const uint32_t *numbers) {
+    for (size_t i = 0; i < count; i++) put(net, numbers[i]);
+}
+
+#define PUT(net, ...) put_all(net, sizeof((uint32_t[]){__VA_ARGS__}) / sizeof(uint32_t), (uint32_t[]){__VA_ARGS__})
+
+/* The list of a group at this depth: eight places, and but for the innermost an empty group and a group as deep as can be. The
+ * library takes more stack for a second group than for a first one. */
+static void put_list(Net *net, uint32_t depth) {
+    uint32_t places = depth == 0 ? 0 : 8;
+    put(net, places + (depth == 8 ? 0 : 2));
+    for (uint32_t p = 1; p <= places; p++) PUT(net, 0, 8 * (depth - 1) + p);
+    if (depth == 8) return;
+    PUT(net, 1, 0, 0);
+    PUT(net, 1, 200 * (8 - depth));
+    put_list(net, depth + 1);
+}
+
+/* 64 places; each event takes up to 3 from a place and gives 200 to the next one, so that states get longer; 16 limits. */
+static void make_deep(Net *net) {
+    net->length = 0;
+    net->events = 64;
+    PUT(net, 1, 64, 64, 16);
+    put_list(net, 0);
+    for (uint32_t e = 1; e < 64; e++) PUT(net, 2, e, 1 + e % 3, 0, e + 1, 0, 200);
+    PUT(net, 2, 1, 0, 200, 64, 3, 0);
+    for (uint32_t l = 1; l <= 16; l++) {
+        PUT(net, 2000 * l, 64);
+        for (uint32_t p = 1; p <= 64; p++) PUT(net, p, p % 2 ? 2 * l : 1);
+    }
+}
+
+static void make_pool(Net *net) {
+    memcpy(net->d, pool, sizeof pool);
+    net->length = sizeof pool;
+    net->events = 3;
+}
+
+/* Event numbers from 0 to one past the last, without a pattern. */
+static uint32_t event_at(const Net *net, uint32_t i) { return (i * 2654435761u >> 16) % (net->events + 2); }
+
+/* ---- the order of refusals */
+
+static void order(void) {
+    static const uint8_t sizes[] = {0x01, 0x41};
+    uint8_t s[] = {0x01, 0x03, 0x00, 0x00, 0x00, 0x01, 0x03}, out[7], place[sizeof pool];
+    ANSWERS(fresh(sizes, 2, out, 0), -3);
+    ANSWERS(record(sizes, 2, s, 0, 0, out, 0), -3);
+    ANSWERS(judge(sizes, 2, s, 0, 0), -3);
+    ANSWERS(known(sizes, 2, s, 0), -3);
+    /* place 0 after place 1: out of range, and out of order */
+    memcpy(place, pool, sizeof pool);
+    place[11] = 0;
+    ANSWERS(fresh(place, sizeof place, out, 7), -4);
+    ANSWERS(record(pool, sizeof pool, s, 6, 0, out, 0), -9);
+    ANSWERS(record(pool, sizeof pool, s, 7, 0, out, 0), -10);
+    s[6] = 0;
+    ANSWERS(record(pool, sizeof pool, s, 7, 1, out, 0), -11);
+}
+
+/* ---- null pointers */
+
+static void null_pointers(void) {
+    uint8_t s[7], out[7];
+    ANSWERS(fresh(NULL, 0, NULL, 0), -1);
+    ANSWERS(fresh(NULL, 0, out, 7), -1);
+    ANSWERS(fresh(pool, sizeof pool, NULL, 0), -13);
+    ANSWERS(fresh(pool, sizeof pool, s, 7), 7);
+    ANSWERS(record(NULL, 0, NULL, 0, 1, NULL, 0), -1);
+    ANSWERS(record(NULL, 0, s, 7, 1, out, 7), -1);
+    ANSWERS(record(pool, sizeof pool, NULL, 0, 1, NULL, 0), -9);
+    ANSWERS(record(pool, sizeof pool, NULL, 0, 1, out, 7), -9);
+    ANSWERS(record(pool, sizeof pool, s, 7, 1, NULL, 0), -13);
+    ANSWERS(judge(NULL, 0, NULL, 0, 1), -1);
+    ANSWERS(judge(NULL, 0, s, 7, 1), -1);
+    ANSWERS(judge(pool, sizeof pool, NULL, 0, 1), -9);
+    ANSWERS(known(NULL, 0, NULL, 0), -1);
+    ANSWERS(known(NULL, 0, s, 7), -1);
+    ANSWERS(known(pool, sizeof pool, NULL, 0), -9);
+}
+
+/* ---- recording in place */
+
+enum { ROOM = YARROWBEAM_LARGEST_STATE };
+
+/* Records an event from s, of this length, to other bytes and to s itself, with this room: the same answer and the same bytes. */
+static int64_t record_twice(const Net *net, uint8_t s[ROOM], size_t length, uint32_t event, size_t room) {
+    uint8_t after[ROOM], expected[ROOM];
+    int64_t answer = record(net->d, net->length, s, length, event, after, room);
+    memcpy(expected, s, ROOM);
+    if (answer > 0) memcpy(expected, after, (size_t)answer);
+    expect("record in place", record(net->d, net->length, s, length, event, s, room), answer);
+    expect("record in place, other bytes", memcmp(s, expected, ROOM) != 0, 0);
+    return answer;
+}
+
+static void in_place(const Net *net) {
+    uint8_t s[ROOM];
+    memset(s, 0xA5, ROOM);
+    size_t length = (size_t)fresh(net->d, net->length, s, ROOM);
+    for (uint32_t i = 0; i < 40 * net->events; i++) {
+        uint32_t event = event_at(net, i);
+        /* first with room that may be too small, and with exactly as much as the state has */
+        int64_t answer = record_twice(net, s, length, event, i % length);
+        if (answer < 0) answer = record_twice(net, s, length, event, length);
+        if (answer < 0) answer = record_twice(net, s, length, event, ROOM);
+        if (answer > 0) length = (size_t)answer;
+    }
+}
+
+/* ---- threads */
+
+enum { THREADS = 8, STEPS = 2000 };
+
+/* The walk of a thread over its own events: judges at the state that all threads share, and records at one of its own. */
+typedef struct {
+    const Net *net;
+    const uint8_t *shared;
+    size_t length;
+    uint32_t start;
+    int64_t answers[STEPS][3];
+    uint8_t s[ROOM];
+} Walk;
+
+static pthread_barrier_t barrier;
+
+static void walk(Walk *w) {
+    const Net *net = w->net;
+    memset(w->s, 0, ROOM);
+    size_t length = (size_t)fresh(net->d, net->length, w->s, ROOM);
+    for (uint32_t i = 0; i < STEPS; i++) {
+        uint32_t event = event_at(net, w->start + i);
+        w->answers[i][0] = judge(net->d, net->length, w->shared, w->length, event);
+        w->answers[i][1] = record(net->d, net->length, w->s, length, event, w->s, ROOM);
+        if (w->answers[i][1] > 0) length = (size_t)w->answers[i][1];
+        w->answers[i][2] = known(net->d, net->length, w->s, length);
+    }
+}
+
+static void *walk_thread(void *w) {
+    pthread_barrier_wait(&barrier);
+    walk(w);
+    return NULL;
+}
+
+static void threads(const Net *net) {
+    static Walk alone[THREADS], together[THREADS];
+    pthread_t ids[THREADS];
+    uint8_t shared[ROOM];
+    size_t length = (size_t)fresh(net->d, net->length, shared, ROOM);
+    for (uint32_t t = 0; t < THREADS; t++) {
+        alone[t] = together[t] = (Walk){.net = net, .shared = shared, .length = length, .start = STEPS * t};
+        walk(&alone[t]);
+    }
+    pthread_barrier_init(&barrier, NULL, THREADS);
+    for (int t = 0; t < THREADS; t++) expect("pthread_create", pthread_create(&ids[t], NULL, walk_thread, &together[t]), 0);
+    for (int t = 0; t < THREADS; t++) pthread_join(ids[t], NULL);
+    pthread_barrier_destroy(&barrier);
+    for (int t = 0; t < THREADS; t++) {
+        expect("answers in a thread", memcmp(together[t].answers, alone[t].answers, sizeof alone[t].answers) != 0, 0);
+        expect("the state in a thread", memcmp(together[t].s, alone[t].s, ROOM) != 0, 0);
+    }
+}
+
+/* ---- stack */
+
+#ifndef WITHOUT_STACK
+
+enum { PAINT = 0xA5, PAGE = 4096, STACK = (PTHREAD_STACK_MIN + YARROWBEAM_LARGEST_STACK + PAGE - 1) / PAGE * PAGE };
+
+static _Alignas(PAGE) uint8_t stack[STACK];
+static const Net *stack_net;
+static uint8_t stack_state[ROOM];
+static size_t stack_length, stack_used;
+
+static void call_fresh(void) {
+    uint8_t out[1];
+    fresh(stack_net->d, stack_net->length, out, 0);
+    fresh(stack_net->d, stack_net->length, stack_state, ROOM);
+}
+static void call_record(void) {
+    record(stack_net->d, stack_net->length, stack_state, stack_length, 1, stack_state, ROOM);
+}
+static void call_judge(void) { judge(stack_net->d, stack_net->length, stack_state, stack_length, 2); }
+static void call_known(void) { known(stack_net->d, stack_net->length, stack_state, stack_length); }
+
+static void (*stack_call)(void);
+
+/* Makes the call on the painted stack, and looks how far down the paint is gone. This frame is counted too. */
+static void *stack_thread(void *unused) {
+    uint8_t *top = __builtin_frame_address(0);
+    stack_call();
+    size_t lowest = 0;
+    while (stack[lowest] == PAINT) lowest++;
+    stack_used = (size_t)(top - (stack + lowest));
+    return unused;
+}
+
+static void stack_of(const char *name, void (*call)(void)) {
+    pthread_attr_t attributes;
+    pthread_t id;
+    /* once on this stack, so that the dynamic linker has found memcpy and memset */
+    call();
+    memset(stack, PAINT, STACK);
+    stack_call = call;
+    pthread_attr_init(&attributes);
+    expect("pthread_attr_setstack", pthread_attr_setstack(&attributes, stack, STACK), 0);
+    expect("pthread_create", pthread_create(&id, &attributes, stack_thread, NULL), 0);
+    pthread_join(id, NULL);
+    pthread_attr_destroy(&attributes);
+    if (stack_used > YARROWBEAM_LARGEST_STACK) {
+        printf("%s used %zu bytes of stack\n", name, stack_used);
+        broken = 1;
+    }
+}
+
+static void stacks(const Net *net) {
+    stack_net = net;
+    stack_length = (size_t)fresh(net->d, net->length, stack_state, ROOM);
+    stack_of("fresh", call_fresh);
+    stack_of("record", call_record);
+    stack_of("judge", call_judge);
+    stack_of("known", call_known);
+}
+
+#else
+
+static void stacks(const Net *net) { (void)net; }
+
+#endif
+
+int main(void) {
+    static Net nets[2];
+    make_pool(&nets[0]);
+    make_deep(&nets[1]);
+    order();
+    null_pointers();
+    for (int i = 0; i < 2; i++) {
+        uint8_t s[ROOM];
+        expect("the net is good", fresh(nets[i].d, nets[i].length, s, ROOM) > 0, 1);
+        in_place(&nets[i]);
+        threads(&nets[i]);
+        stacks(&nets[i]);
+    }
+    return broken;
+}
