@@ -3,3 +3,4 @@ pub mod Number
 pub mod Signed
 pub mod Reading
 pub mod Writing
+pub mod RoundTrips
