@@ -1,30 +1,30 @@
 -- The calls on bytes do what the theory's do: the bytes are those of the theory's state.
-use Prim.Native.Nat.{ℕ, suc, _-_, _≤_, _<_}
-use mathlib.Core.Path.{_≡_, refl, sym, ap, _∙_, subst}
+use Prim.Native.Nat.{ℕ, suc, _-_, _<_}
+use mathlib.Core.Path.{_≡_, refl, sym, _∙_, subst}
 use mathlib.Core.Bool.{Bool, true, false}
-use mathlib.Core.List.{List, []}
+use mathlib.Core.List.{List}
 use mathlib.Core.Logic.{_↔_, Iff·trans}
 use native.Mathlib.Omega.{arith}
 use lib.Dec.{leb}
 use lib.ListN.{length}
-use Rattle.theory.specs.Nets.{Net, Marking, Good}
-use Rattle.theory.specs.Firing.{Same, Consistent, FiredTo}
+use Rattle.theory.specs.Nets.{Net, Marking}
+use Rattle.theory.specs.Firing.{Same, Consistent}
 use Rattle.theory.specs.Recording.{State, Alike, Within, Fitting, fresh, next, known, published}
 use Rattle.theory.proofs.Recording.{next-iff}
 use Rattle.theory.specs.Replies.{Reply, value, refusal, _>>=_, question}
-use Rattle.theory.specs.Answers.{Verdict, ask, recorded, judged, noRoom}
-use Rattle.theory.proofs.Answers.{clash, ask-event, record-yes}
-use Rattle.theory.proofs.Alike.{alike-sym, ask-alike, next-alike, judge-alike, within-alike}
+use Rattle.theory.specs.Answers.{recorded, judged, noRoom}
+use Rattle.theory.proofs.Answers.{clash, then-yes, record-yes}
+use Rattle.theory.proofs.Alike.{alike-sym, judge-alike, recorded-alike, within-alike}
 use Rattle.theory.proofs.Known.{known-only}
-use Rattle.theory.proofs.Exact.{replies, retold}
+use Rattle.theory.proofs.Exact.{retold}
 use Rattle.theory.proofs.Exact as Exact
 use Rattle.theory.proofs.Faithful as Faithful
 use Rattle.theory.specs.Calls.{Call}
 use Rattle.theory.specs.Demands.{Demand2, Demand3}
 use Rattle.theory.proofs.Lists.{Tied, both, neither, full, Ties, Kept, kept-standing, tied-told, safe-standing}
 use Rattle.theory.proofs.Lists as Lists
-use Rattle.codec.specs.Reader.{Result, ok, read}
-use Rattle.codec.specs.Reader as Reader
+use Rattle.codec.specs.Reader.{ok, read}
+use Rattle.codec.proofs.Inverse.{read-ok}
 use Rattle.codec.specs.Output.{fitting, answer}
 use Rattle.net.specs.Answers.{answerOf}
 use Rattle.description.specs.Grammar.{Parts, parts, netFrom}
@@ -85,25 +85,15 @@ module _ (d left : List ℕ) (x : Parts) (e : parts d ≡ ok x left) where
 
   -- what is read as a state are its bytes
   pub read-are : (b : List ℕ) (s : State) → stateIn net b ≡ value s → BytesOf net b s
-  read-are b s r = go (restored net b) refl r
-    where
-      go : (found : Result State) → restored net b ≡ found → read found ≡ value s → BytesOf net b s
-      go (ok t rest) u v =
-          let back = state-back net (good d left x e .outward) b rest t u in
-          let same : t ≡ s = cc in
-          subst (λ (s : State). BytesOf net b s) same (record { are = back .are; fit = back .fit })
-      go (Reader.no n) u v = clash (cc)
+  read-are b s r =
+      let was = read-ok (restored net b) r in
+      let back = state-back net (good d left x e .outward) b (was .0) s (was .1) in
+      record { are = back .are; fit = back .fit }
 
   recorded-is : (b : List ℕ) (s : State) → BytesOf net b s → (number : ℕ) → recordReply d b number ≡ (recorded net s number >>= λ t. value (saved net t))
-  unfolding recorded
   recorded-is b s of number =
       let back = read-back b s of in
-      record-described b number ∙ rw (back .1, ← ask-alike net (back .2) number) (go (ask net s number))
-    where
-      go : (r : Reply ℕ)
-          → ((r >>= λ e. value (next net (read-back b s of .0) e)) >>= λ t. value (saved net t)) ≡ ((r >>= λ e. value (next net s e)) >>= λ t. value (saved net t))
-      go (value e) = ap value (sym (saved-alike net (next-alike net (read-back b s of .2) e)))
-      go (refusal n) = refl
+      record-described b number ∙ rw (back .1) (sym (recorded-alike net (back .2) (saved net) (λ t u. saved-alike net) number))
 
   pub judged-is : (b : List ℕ) (s : State) → BytesOf net b s → (number : ℕ) → judgeReply d b number ≡ judged net s number
   judged-is b s of number =
@@ -222,21 +212,16 @@ module _ (d left : List ℕ) (x : Parts) (e : parts d ≡ ok x left) where
 
 -- ---- of a net that is described
 
-described-parts : (d : List ℕ) (net : Net) → described d ≡ value net → (left : List ℕ) × (x : Parts) × (parts d ≡ ok x left) × (netIn x ≡ net)
-described-parts d net u = go (parts d) refl u
-  where
-    go : (r : Result Parts) → parts d ≡ r → (read r >>= λ x. value (netIn x)) ≡ value net
-        → (left : List ℕ) × (x : Parts) × (parts d ≡ ok x left) × (netIn x ≡ net)
-    go (ok x left) v w = (left, x, v, cc)
-    go (Reader.no n) v w = clash (cc)
+-- what holds of all that a description says holds of the net that is described
+pub of-described : (d : List ℕ) (P : Net → Type 0) → ((left : List ℕ) (x : Parts) → parts d ≡ ok x left → P (netIn x))
+    → (net : Net) → described d ≡ value net → P net
+of-described d P each net u =
+    let found = then-yes netIn (read (parts d)) net u in
+    let was = read-ok (parts d) (found .1) in
+    subst P (sym (found .2)) (each (was .0) (found .0) (was .1))
 
 pub lists-on-bytes : (d : List ℕ) (net : Net) → described d ≡ value net → (list : List Call) → ListsOnBytes d net list
-lists-on-bytes d net u list =
-    let found = described-parts d net u in
-    subst (λ (net : Net). ListsOnBytes d net list) (found .3) (list-on-bytes d (found .0) (found .1) (found .2) list)
+lists-on-bytes d = of-described d (λ net. (list : List Call) → ListsOnBytes d net list) (list-on-bytes d)
 
 pub states-on-bytes : (d : List ℕ) (net : Net) → described d ≡ value net → (b : List ℕ) (s : State) → stateIn net b ≡ value s → StateOnBytes d net b s
-states-on-bytes d net u =
-    let found = described-parts d net u in
-    subst (λ (net : Net). (b : List ℕ) (s : State) → stateIn net b ≡ value s → StateOnBytes d net b s) (found .3)
-    (state-on-bytes d (found .0) (found .1) (found .2))
+states-on-bytes d = of-described d (λ net. (b : List ℕ) (s : State) → stateIn net b ≡ value s → StateOnBytes d net b s) (state-on-bytes d)

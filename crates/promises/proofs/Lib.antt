@@ -2,5 +2,9 @@
 pub mod Told
 pub mod Bytes
 pub mod Values
+pub mod Meaning
+pub mod RoundTrips
+pub mod Longest
 pub mod Refusals
+pub mod Promises
 pub mod Examples

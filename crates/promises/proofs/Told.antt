@@ -1,10 +1,9 @@
 -- The answers that demand 3 speaks of are told in the calls' own words exactly when they are the replies.
 use Prim.Native.Nat.{ℕ, suc}
-use mathlib.Core.Path.{_≡_, ap}
+use mathlib.Core.Path.{_≡_}
 use mathlib.Core.List.{List}
 use mathlib.Core.Logic.{_↔_}
 use native.Mathlib.Omega.{arith}
-use lib.IntN.{pos}
 use Rattle.theory.specs.Replies.{Reply, value, refusal}
 use Rattle.theory.specs.Answers.{Verdict, allow, hold}
 use Rattle.theory.proofs.Answers.{clash}

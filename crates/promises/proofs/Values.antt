@@ -1,5 +1,5 @@
 -- The calls on values do what the theory's do: the observer is that of the theory's state.
-use Prim.Native.Nat.{ℕ, suc, _-_, _<_}
+use Prim.Native.Nat.{ℕ, suc, _<_}
 use mathlib.Core.Path.{_≡_, refl, sym, ap, _∙_, subst}
 use mathlib.Core.Bool.{true}
 use mathlib.Core.List.{List}
@@ -7,13 +7,13 @@ use mathlib.Core.Logic.{_↔_, Iff·trans}
 use native.Mathlib.Omega.{arith}
 use lib.ListN.{length}
 use Rattle.theory.specs.Nets.{Marking}
-use Rattle.theory.specs.Firing.{Same, Consistent}
-use Rattle.theory.specs.Recording.{State, Alike, Within, fresh, next, known, published}
+use Rattle.theory.specs.Firing.{Same}
+use Rattle.theory.specs.Recording.{State, Alike, Within, fresh, next, known}
 use Rattle.theory.proofs.Recording.{next-iff}
 use Rattle.theory.specs.Replies.{Reply, value, refusal, _>>=_}
-use Rattle.theory.specs.Answers.{ask, recorded, judged}
-use Rattle.theory.proofs.Answers.{clash, record-yes, then-no, then-yes}
-use Rattle.theory.proofs.Alike.{alike-sym, ask-alike, next-alike, judge-alike, within-alike}
+use Rattle.theory.specs.Answers.{recorded, judged}
+use Rattle.theory.proofs.Answers.{record-yes, then-yes}
+use Rattle.theory.proofs.Alike.{alike-sym, judge-alike, recorded-alike, within-alike}
 use Rattle.theory.proofs.Known.{known-only}
 use Rattle.theory.proofs.Exact.{retold}
 use Rattle.theory.proofs.Exact as Exact
@@ -38,7 +38,7 @@ use Rattle.states.specs.States.Nets.Laws.{fit-next, fit-fresh}
 use Rattle.values.specs.Values.{bothCheck, restoredObserver, observerOutput, recordedObserver, observerJudged, observerKnown}
 use Rattle.values.specs.Values.Laws.{before, both-good, both-passed, output-is, same-observer, state-observer, state-fits, write-read}
 use Rattle.promises.specs.Lists.{bytesOf, onValues, memory}
-use Rattle.promises.specs.Promises.{onValuesTold, estimateAfter, ListsOnValues, Leaves, StateOnValues}
+use Rattle.promises.specs.Promises.{onValuesTold, ListsOnValues, Leaves, StateOnValues}
 use Rattle.promises.proofs.Told.{values-told}
 use Rattle.promises.proofs.Bytes.{fit-fitting}
 
@@ -46,6 +46,17 @@ use Rattle.promises.proofs.Bytes.{fit-fitting}
 pub record ObserverOf (net : Net) (o : Observer) (s : State) : Type 0 where
   pub is : o ≡ observerOf net s
   pub fit : Fit (net .places) (groupsOf net) s
+
+-- recording leaves the observer of the theory's next state
+recorded-tied : (net : Net) (s : State) → Fit (net .places) (groupsOf net) s → (number : ℕ)
+    → Tied (ObserverOf net) (recorded (netOf net) s number >>= λ t. value (observerOf net t)) (recorded (netOf net) s number)
+recorded-tied net s fit number = go (recorded (netOf net) s number) refl
+  where
+    go : (r : Reply State) → recorded (netOf net) s number ≡ r → Tied (ObserverOf net) (r >>= λ t. value (observerOf net t)) r
+    go (refusal n) u = neither n
+    go (value t) u =
+        let found = record-yes (netOf net) s number t u in
+        both (observerOf net t) t (record { is = refl; fit = rw (found .2) (fit-next (netOf net) (found .0) fit (found .1 .range)) })
 
 -- ---- at an observer that fits the net
 
@@ -64,22 +75,12 @@ module _ (net : Net) (o : Observer) (met : bothCheck net o ≡ value tt) where
   unfolding observerJudged
   judged-is number = rw met
 
-  -- recording leaves the observer of the theory's next state
-  record-tied : (number : ℕ) → Tied (ObserverOf net) (recordedObserver net o number) (recorded (netOf net) (stateOf o) number)
-  record-tied number = rw (recorded-is number) (go (recorded (netOf net) (stateOf o) number) refl)
-    where
-      go : (r : Reply State) → recorded (netOf net) (stateOf o) number ≡ r → Tied (ObserverOf net) (r >>= λ t. value (observerOf net t)) r
-      go (refusal n) u = neither n
-      go (value t) u =
-          let found = record-yes (netOf net) (stateOf o) number t u in
-          both (observerOf net t) t (record { is = refl; fit = rw (found .2) (fit-next (netOf net) (found .0) fit (found .1 .range)) })
-
   state-demand-3 : (e : ℕ) → e < net .events
       → Demand3 onValuesTold (netOf net) (Within (netOf net) (stateOf o)) (next (netOf net) (stateOf o) e .estimate) e
       (observedOf (recordedObserver net o (suc e)) .checked) (answerOf (observerJudged net o (suc e)))
   state-demand-3 e l =
       retold (values-told (recordedObserver net o (suc e)) (observerJudged net o (suc e)))
-      (retold (tied-told (record-tied (suc e)) (judged-is (suc e)))
+      (retold (tied-told {R = ObserverOf net} (rw (recorded-is (suc e)) (recorded-tied net (stateOf o) fit (suc e))) (judged-is (suc e)))
       (Exact.demand-3 (netOf net) (good-net net checked) (stateOf o) (Within (netOf net) (stateOf o))
       (record { fitting = fit-fitting (netOf net) fit; sound = λ m w. w; complete = λ m w. w })
       (next (netOf net) (stateOf o) e .estimate) e (λ t p q. refl) l))
@@ -117,28 +118,20 @@ module _ (net : Net) (checked : netCheck net ≡ Good) where
   unfolding freshObserver
   fresh-is = rw checked
 
-  -- recording at an observer of a state is recording at the state
-  same-tied : (s : State) → Fit (net .places) (groupsOf net) s → (number : ℕ)
-      → Tied (ObserverOf net) (recordedObserver net (observerOf net s) number) (recorded (netOf net) s number)
-  unfolding recordedObserver recorded
-  same-tied s fit number =
-      rw (both-good net checked s fit, ask-alike (netOf net) (state-observer net checked s fit) number) (go (recorded (netOf net) s number) refl)
-    where
-      go : (r : Reply State) → recorded (netOf net) s number ≡ r
-          → Tied (ObserverOf net) ((ask (netOf net) s number >>= λ e. value (next (netOf net) (stateOf (observerOf net s)) e)) >>= λ t. value (observerOf net t))
-          (ask (netOf net) s number >>= λ e. value (next (netOf net) s e))
-      go (refusal n) u =
-          let asked = then-no (next (netOf net) s) (ask (netOf net) s number) n .0 u in
-          rw asked (neither n)
-      go (value t) u =
-          let found = record-yes (netOf net) s number t u in
-          let asked = then-yes (next (netOf net) s) (ask (netOf net) s number) t u in
-          rw (asked .1) (both _ _ (record {
-            is = same-observer net checked (next-alike (netOf net) (state-observer net checked s fit) (asked .0));
-            fit = rw (← asked .2, found .2) (fit-next (netOf net) (found .0) fit (found .1 .range));
-          }))
+  pub fresh-fit : Fit (net .places) (groupsOf net) (fresh (netOf net))
+  fresh-fit =
+      let well = well-formed net checked in
+      fit-fresh (netOf net) (well .good) (λ i l. rw (before net checked i) (well .valued .counts .small i (omega (arith, well .sized .groups))))
 
-  same-judged : (s : State) → Fit (net .places) (groupsOf net) s → (number : ℕ) → observerJudged net (observerOf net s) number ≡ judged (netOf net) s number
+  -- the calls at an observer of a state are the theory's at the state
+  pub same-recorded : (s : State) → Fit (net .places) (groupsOf net) s → (number : ℕ)
+      → recordedObserver net (observerOf net s) number ≡ (recorded (netOf net) s number >>= λ t. value (observerOf net t))
+  unfolding recordedObserver
+  same-recorded s fit number =
+      rw (both-good net checked s fit)
+      (recorded-alike (netOf net) (state-observer net checked s fit) (observerOf net) (λ t u. same-observer net checked) number)
+
+  pub same-judged : (s : State) → Fit (net .places) (groupsOf net) s → (number : ℕ) → observerJudged net (observerOf net s) number ≡ judged (netOf net) s number
   unfolding observerJudged
   same-judged s fit number = rw (both-good net checked s fit) (judge-alike (netOf net) (state-observer net checked s fit) number)
 
@@ -157,13 +150,12 @@ module _ (net : Net) (checked : netCheck net ≡ Good) where
   -- the calls on values are tied to the theory's
   pub ties : Ties (netOf net) (onValues net) (ObserverOf net)
   ties =
-      let well = well-formed net checked in
       record {
         begins = record {
           is = fresh-is;
-          fit = fit-fresh (netOf net) (well .good) (λ i l. rw (before net checked i) (well .valued .counts .small i (omega (arith, well .sized .groups))));
+          fit = fresh-fit;
         };
-        records = λ o s of number room. rw (of .is) (same-tied s (of .fit) number);
+        records = λ o s of number room. rw (of .is, same-recorded s (of .fit) number) (recorded-tied net s (of .fit) number);
         judges = λ o s of number. rw (of .is) (same-judged s (of .fit) number);
         restores = λ o s of. record { state = observerOf net s; read = rw (of .is) (restored-back s (of .fit)); tied = record { is = refl; fit = of .fit } };
       }

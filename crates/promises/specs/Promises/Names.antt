@@ -6,12 +6,16 @@ pub use mathlib.Core.List.{List, [], _∷_, _++_}
 pub use mathlib.Core.Logic.{_↔_, _⊎_}
 pub use lib.IntN.{ℤ, pos}
 pub use lib.ListN.{length, drop}
-pub use Rattle.theory.specs.Nets.{Marking, Fits}
+pub use Rattle.theory.specs.Nets.{SameNet, Marking, Fits}
 pub use Rattle.theory.specs.Firing.{Deed, fired, Same, Fires, Consistent, Able, FiredTo}
-pub use Rattle.theory.specs.Recording.{State, Alike, Within, fresh, next, published}
+pub use Rattle.theory.specs.Recording.{State, Alike, Within, fresh, next, unplaced, published}
 pub use Rattle.theory.specs.Replies.{Reply, value, refusal, _>>=_}
 pub use Rattle.theory.specs.Calls.{Call, AllAllowed}
 pub use Rattle.theory.specs.Demands.{Demand2, Possible, Words, Demand3, WithinLimits, Stays}
+pub use Rattle.numbers.specs.declared.Read.the-variants.{Number}
+pub use Rattle.numbers.specs.declared.Written.the-variants.{Next}
+pub use Rattle.numbers.specs.Number.{largest, form, numberAt, room, writtenAt, writeAt}
+pub use Rattle.numbers.specs.Signed.{stored, signed}
 pub use Rattle.codec.specs.declared.Wrote.{Wrote}
 pub use Rattle.codec.specs.declared.Wrote.the-variants.{Bytes}
 pub use Rattle.codec.specs.Output.{answer, left}
@@ -27,9 +31,11 @@ pub use Rattle.net.specs.View.{netOf}
 pub use Rattle.net.specs.Check.{netCheck}
 pub use Rattle.net.specs.Answers.{answerOf}
 pub use Rattle.net.specs.Observers.{stateOf, observedOf, freshObserver}
-pub use Rattle.description.specs.Read.{descriptionRead}
+pub use Rattle.description.specs.Read.{longestDescription, descriptionRead}
 pub use Rattle.description.specs.Writing.{written}
-pub use Rattle.states.specs.States.Nets.{saved}
+pub use Rattle.description.specs.Fine.{Full}
+pub use Rattle.states.specs.States.Writing.{Fit}
+pub use Rattle.states.specs.States.Nets.{longestState, saved}
 pub use Rattle.observer.specs.Bytes.{described, stateIn, freshReply, recordReply, judgeReply, knownReply}
 pub use Rattle.values.specs.Values.{bothCheck, restoredObserver, observerOutput, recordedObserver, observerJudged, observerKnown, observerUnplaced}
 pub use Rattle.host.specs.Numbers.{refusalNumber, wroteNumber, answerNumber}

@@ -1,0 +1,106 @@
+-- How long a description and a saved state can be, and bytes that are as long.
+use Prim.Native.Nat.{ℕ, _+_, _*_, _≤_}
+use mathlib.Core.Path.{_≡_, refl, ap}
+use mathlib.Core.List.{List, [], _∷_, _++_, flatMap}
+use lib.ListN.{length, replicate}
+use Rattle.theory.specs.Sums.{every, direct, sum}
+use Rattle.theory.specs.Nets as Theory
+use Rattle.theory.specs.Nets.{inner}
+use Rattle.theory.specs.Recording.{State, bound}
+use Rattle.theory.specs.Replies.{Reply, value, refusal, _>>=_}
+use Rattle.theory.proofs.Answers.{clash}
+use Rattle.numbers.specs.Number.{form, groups}
+use Rattle.numbers.specs.Number as Stored
+use Rattle.numbers.specs.Signed.{signed}
+use Rattle.codec.specs.Reader.{number, many, end, read}
+use Rattle.codec.specs.Joined.{joined}
+use Rattle.codec.proofs.Inverse.{read-ok}
+use Rattle.net.specs.declared.Net.{Net}
+use Rattle.net.specs.Bounds.{mostPlaces, mostEvents, mostGroups, mostLimits, mostTake, mostCeiling, mostWeight}
+use Rattle.net.specs.Check.{shared, shareFits, hasPlace}
+use Rattle.members.specs.Members.{place, innerGroups, members, memberList, group, outermost}
+use Rattle.rows.specs.Rows.{entries, row, risingPlace, arc, event, signedWithin, term, limit}
+use Rattle.description.specs.Grammar.{Parts, head, limitsToEnd, parts, netFrom, description}
+use Rattle.description.specs.Read.{longestDescription, descriptionRead}
+use Rattle.description.proofs.Longest.{longest-description}
+use Rattle.states.specs.States as States
+use Rattle.states.specs.States.{edition, values, saved, stateFrom, state}
+use Rattle.states.specs.States.Writing.{valuesBytes}
+use Rattle.states.specs.States.Nets.{longestState, restored}
+use Rattle.states.proofs.Longest.{longest-state}
+use Rattle.observer.specs.Bytes.{netIn, described, stateIn}
+use Rattle.observer.specs.Bytes.Laws.{fine}
+use Rattle.promises.specs.Promises.{Longest}
+use Rattle.promises.proofs.Bytes.{of-described}
+use Rattle.promises.proofs.Meaning.{one-meaning}
+
+-- ---- the bounds
+
+description-bounded : (d : List ℕ) (net : Theory.Net) → described d ≡ value net → length d ≤ longestDescription
+description-bounded d = of-described d (λ _. length d ≤ longestDescription) (longest-description d)
+
+state-bounded : (d : List ℕ) (net : Theory.Net) → described d ≡ value net → (b : List ℕ) (s : State) → stateIn net b ≡ value s → length b ≤ longestState
+unfolding netFrom
+state-bounded d =
+    of-described d (λ net. (b : List ℕ) (s : State) → stateIn net b ≡ value s → length b ≤ longestState) (λ left x e b s r.
+    let sized = fine d left x e .sized in
+    let was = read-ok (restored (netIn x) b) r in
+    longest-state (netIn x) (sized .places) (sized .groups) b (was .0) s (was .1))
+
+-- ---- bytes that are as long
+
+-- two places in each group, counts of three bytes, ceilings of five, and takes, gives and weights of two at every place
+fullDescription : List ℕ
+fullDescription =
+    let event = mostPlaces ∷ joined mostPlaces (λ p. (p + 1) ∷ form mostTake ++ form mostTake) in
+    let limit = form (2 * mostCeiling) ++ mostPlaces ∷ joined mostPlaces (λ p. (p + 1) ∷ form (2 * mostWeight)) in
+    1 ∷ mostPlaces ∷ mostEvents ∷ mostLimits ∷ mostGroups
+    ∷ joined mostGroups (λ i. 1 ∷ form bound ++ 2 ∷ 0 ∷ (i * 2 + 1) ∷ 0 ∷ (i * 2 + 2) ∷ [])
+    ++ flatMap (λ bytes. bytes) (replicate mostEvents event)
+    ++ flatMap (λ bytes. bytes) (replicate mostLimits limit)
+
+-- of that net, and values of three bytes
+fullState : List ℕ
+fullState = form edition ++ valuesBytes mostPlaces (λ p. bound) ++ valuesBytes mostGroups (λ i. bound)
+
+full-lengths : (length fullDescription ≡ longestDescription) × (length fullState ≡ longestState)
+unfolding fullDescription fullState valuesBytes joined flatMap form groups
+full-lengths = (refl, refl)
+
+-- both are read
+full-read : (read (parts fullDescription) >>= λ x. stateIn (netIn x) fullState >>= λ s. value (s .estimate 0)) ≡ value bound
+unfolding fullDescription fullState valuesBytes joined flatMap form groups parts head limitsToEnd number Stored.number Stored.front Stored.before
+    Stored.small many end outermost memberList members innerGroups place group event limit entries row risingPlace arc term signedWithin signed
+    shared shareFits hasPlace every direct sum inner state stateFrom saved values States.value
+full-read = refl
+
+-- of two questions that are answered, the first is
+first-value : {A B : Type 0} (r : Reply A) {k : A → Reply B} {b : B} → (r >>= k) ≡ value b → (a : A) × (r ≡ value a) × (k a ≡ value b)
+first-value (value a) e = (a, refl, e)
+first-value (refusal n) e = clash (cc)
+
+said-read : (d : List ℕ) (x : Parts) → read (parts d) ≡ value x → descriptionRead d ≡ value (netFrom x)
+unfolding descriptionRead description
+said-read d x u = rw (read-ok (parts d) u .1)
+
+description-met : (d : List ℕ) × (net : Net) × (descriptionRead d ≡ value net) × (length d ≡ longestDescription)
+description-met =
+    let said = first-value (read (parts fullDescription)) full-read in
+    (fullDescription, netFrom (said .0), said-read fullDescription (said .0) (said .1), full-lengths .0)
+
+state-met : (d : List ℕ) × (net : Theory.Net) × (described d ≡ value net)
+    × (b : List ℕ) × (s : State) × (stateIn net b ≡ value s) × (length b ≡ longestState)
+state-met =
+    let said = first-value (read (parts fullDescription)) full-read in
+    let kept = first-value (stateIn (netIn (said .0)) fullState) (said .2) in
+    (fullDescription, netIn (said .0), ap (λ (r : Reply Parts). r >>= λ x. value (netIn x)) (said .1), fullState, kept .0, kept .1, full-lengths .1)
+
+pub longest : Longest
+longest =
+    record {
+      descriptions = λ d net u. let said = one-meaning .nets d net u in description-bounded d (said .0) (said .1);
+      descriptions-on-bytes = description-bounded;
+      states = state-bounded;
+      description-met = description-met;
+      state-met = state-met;
+    }

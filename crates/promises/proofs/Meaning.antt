@@ -1,0 +1,133 @@
+-- A call on bytes answers as the calls on values do one after the other.
+use Prim.Native.Nat.{ℕ}
+use mathlib.Core.Path.{_≡_, refl, sym, ap, _∙_, subst}
+use mathlib.Core.List.{List}
+use Rattle.theory.specs.Nets as Theory
+use Rattle.theory.specs.Nets.{SameNet}
+use Rattle.theory.specs.Recording.{State, fresh, known, unplaced}
+use Rattle.theory.specs.Replies.{Reply, value, refusal, _>>=_}
+use Rattle.theory.specs.Answers.{recorded, judged}
+use Rattle.theory.proofs.Answers.{clash, record-yes}
+use Rattle.theory.proofs.Alike.{known-alike}
+use Rattle.theory.proofs.SameNet.{judge-same, recorded-same}
+use Rattle.codec.specs.Reader.{Result, ok, no, onward, done, read}
+use Rattle.net.specs.declared.Net.{Net}
+use Rattle.net.specs.declared.Observer.{Observer}
+use Rattle.net.specs.declared.Checked.the-variants.{Good}
+use Rattle.net.specs.View.{groupsOf, netOf}
+use Rattle.net.specs.Check.{netCheck}
+use Rattle.net.specs.Observers.{observerOf, freshObserver}
+use Rattle.net.specs.Check.Laws.{well-formed}
+use Rattle.description.specs.Grammar.{Parts, parts, netFrom, description}
+use Rattle.description.specs.Read.{descriptionRead}
+use Rattle.description.specs.Fine.{fine-good}
+use Rattle.states.specs.States.Writing.{Fit}
+use Rattle.states.specs.States.Inverse.{state-back}
+use Rattle.states.specs.States.Nets.{saved, restored}
+use Rattle.states.specs.States.Nets.Laws.{saved-alike, fit-next}
+use Rattle.observer.specs.Bytes.{netIn, described, stateIn, freshReply, recordReply, judgeReply, knownReply}
+use Rattle.observer.specs.Bytes.Laws.{fine, same-net}
+use Rattle.values.specs.Values.{restoredObserver, observerOutput, recordedObserver, observerJudged, observerKnown}
+use Rattle.values.specs.Values.Laws.{both-good, output-is, state-observer}
+use Rattle.promises.specs.Promises.{OneMeaning}
+use Rattle.promises.proofs.Values.{fresh-fit, same-recorded, same-judged}
+
+-- ---- on values, for a net that meets no question: the calls at what is restored are the theory's
+
+module _ (net : Net) (checked : netCheck net ≡ Good) where
+  -- a call at the observer that is restored from bytes, and what the theory says at the state in them
+  restored-then : {B : Type 0} (call : Observer → Reply B) (says : State → Reply B)
+      → ((s : State) → Fit (net .places) (groupsOf net) s → call (observerOf net s) ≡ says s)
+      → (b : List ℕ) → (restoredObserver net b >>= call) ≡ (stateIn (netOf net) b >>= says)
+  unfolding restoredObserver
+  restored-then call says same b = rw checked (go (restored (netOf net) b) refl)
+    where
+      go : (r : Result State) → restored (netOf net) b ≡ r → ((read r >>= λ s. value (observerOf net s)) >>= call) ≡ (read r >>= says)
+      go (ok s left) u = same s (state-back (netOf net) (well-formed net checked .good .outward) b left s u .fit)
+      go (no n) u = refl
+
+  fresh-output : (freshObserver net >>= observerOutput net) ≡ value (saved (netOf net) (fresh (netOf net)))
+  unfolding freshObserver
+  fresh-output = rw checked (output-is net checked (fresh (netOf net)) (fresh-fit net checked))
+
+  recorded-output : (number : ℕ) (s : State) → Fit (net .places) (groupsOf net) s
+      → (recordedObserver net (observerOf net s) number >>= observerOutput net) ≡ (recorded (netOf net) s number >>= λ t. value (saved (netOf net) t))
+  recorded-output number s fit = rw (same-recorded net checked s fit number) (go (recorded (netOf net) s number) refl)
+    where
+      go : (r : Reply State) → recorded (netOf net) s number ≡ r
+          → ((r >>= λ t. value (observerOf net t)) >>= observerOutput net) ≡ (r >>= λ t. value (saved (netOf net) t))
+      go (value t) u =
+          let found = record-yes (netOf net) s number t u in
+          output-is net checked t (rw (found .2) (fit-next (netOf net) (found .0) fit (found .1 .range)))
+      go (refusal n) u = refl
+
+  known-is : (s : State) → Fit (net .places) (groupsOf net) s → observerKnown net (observerOf net s) ≡ value (known (netOf net) s)
+  unfolding observerKnown
+  known-is s fit = rw (both-good net checked s fit) (ap value (known-alike (netOf net) (state-observer net checked s fit)))
+
+-- ---- of a description
+
+module _ (d left : List ℕ) (x : Parts) (e : parts d ≡ ok x left) where
+  abbrev net : Net
+  net = netFrom x
+
+  checked : netCheck net ≡ Good
+  checked = fine-good net (fine d left x e)
+
+  same : SameNet (netIn x) (netOf net)
+  same = same-net d left x e
+
+  fresh-one : value (saved (netIn x) (fresh (netIn x))) ≡ (freshObserver net >>= observerOutput net)
+  unfolding netFrom fresh
+  fresh-one = sym (fresh-output net checked)
+
+  recorded-one : (b : List ℕ) (number : ℕ) → (stateIn (netIn x) b >>= λ s. recorded (netIn x) s number >>= λ t. value (saved (netIn x) t))
+      ≡ (restoredObserver net b >>= λ o. recordedObserver net o number >>= observerOutput net)
+  unfolding netFrom
+  recorded-one b number =
+      sym (restored-then net checked (λ o. recordedObserver net o number >>= observerOutput net) _ (λ s fit.
+      recorded-output net checked number s fit ∙ sym (recorded-same same (saved (netIn x)) (λ t u. saved-alike (netIn x)) s number)) b)
+
+  judged-one : (b : List ℕ) (number : ℕ)
+      → (stateIn (netIn x) b >>= λ s. judged (netIn x) s number) ≡ (restoredObserver net b >>= λ o. observerJudged net o number)
+  unfolding netFrom
+  judged-one b number =
+      sym (restored-then net checked (λ o. observerJudged net o number) _ (λ s fit. same-judged net checked s fit number ∙ sym (judge-same same s number)) b)
+
+  known-one : (b : List ℕ) → (stateIn (netIn x) b >>= λ s. value (known (netIn x) s)) ≡ (restoredObserver net b >>= observerKnown net)
+  unfolding netFrom known unplaced
+  known-one b = sym (restored-then net checked (observerKnown net) _ (known-is net checked) b)
+
+module _ (d : List ℕ) where
+  -- a call on what a description says, and a call on the net that it is read to
+  described-then : {B : Type 0} (says : Theory.Net → Reply B) (call : Net → Reply B)
+      → ((left : List ℕ) (x : Parts) → parts d ≡ ok x left → says (netIn x) ≡ call (netFrom x))
+      → (described d >>= says) ≡ (descriptionRead d >>= call)
+  unfolding descriptionRead description
+  described-then says call same = go (parts d) refl
+    where
+      go : (r : Result Parts) → parts d ≡ r → ((read r >>= λ x. value (netIn x)) >>= says) ≡ (read (onward r (λ x. done (netFrom x))) >>= call)
+      go (ok x left) u = same left x u
+      go (no n) u = refl
+
+  net-one : (net : Net) → descriptionRead d ≡ value net → (other : Theory.Net) × (described d ≡ value other) × SameNet other (netOf net)
+  unfolding descriptionRead description
+  net-one net v = go (parts d) refl v
+    where
+      go : (r : Result Parts) → parts d ≡ r → read (onward r (λ x. done (netFrom x))) ≡ value net
+          → (other : Theory.Net) × ((read r >>= λ x. value (netIn x)) ≡ value other) × SameNet other (netOf net)
+      go (ok x left) u w =
+          let here : netFrom x ≡ net = cc in
+          (netIn x, refl, subst (λ (n : Net). SameNet (netIn x) (netOf n)) here (same-net d left x u))
+      go (no n) u w = clash (cc)
+
+pub one-meaning : OneMeaning
+unfolding freshReply recordReply judgeReply knownReply
+one-meaning =
+    record {
+      fresh = λ d. described-then d _ _ (fresh-one d);
+      recorded = λ d s number. described-then d _ _ (λ left x e. recorded-one d left x e s number);
+      judged = λ d s number. described-then d _ _ (λ left x e. judged-one d left x e s number);
+      known = λ d s. described-then d _ _ (λ left x e. known-one d left x e s);
+      nets = net-one;
+    }

@@ -1,0 +1,69 @@
+-- The promises, each by the theorems that prove it.
+use Prim.Native.Nat.{ℕ, _≤_}
+use mathlib.Core.Path.{_≡_, refl, sym, _∙_}
+use mathlib.Core.Bool.{Bool, true, false}
+use mathlib.Core.List.{List, _++_}
+use borrow.Author.Tests.{leb-true}
+use lib.Dec.{leb}
+use lib.ListN.{length, drop}
+use Rattle.theory.specs.Replies.{Reply, value, refusal, _>>=_, question}
+use Rattle.theory.specs.Answers.{noRoom}
+use Rattle.theory.proofs.Answers.{clash}
+use Rattle.theory.proofs.Exact.{judged-determined, impossible-determined, overRange-determined}
+use Rattle.theory.proofs.Faithful.{possible-starts}
+use Rattle.codec.specs.declared.Wrote.the-variants.{Bytes, Refused}
+use Rattle.codec.specs.Output.{fitting, wroteOf, leftOf, answer, left}
+use Rattle.promises.specs.Promises.{Demand1, Starts, Determined, Promises}
+use Rattle.promises.proofs.Bytes.{lists-on-bytes, states-on-bytes}
+use Rattle.promises.proofs.Values.{list-on-values, state-on-values}
+use Rattle.promises.proofs.Meaning.{one-meaning}
+use Rattle.promises.proofs.RoundTrips.{round-trips}
+use Rattle.promises.proofs.Longest.{longest}
+use Rattle.promises.proofs.Refusals.{refusals-on-bytes, refusals-on-values}
+
+pub demand-1 : Demand1
+demand-1 = record { refused = λ out reply n. refused out (fitting (length out) reply) n; written = written }
+  where
+    refused : (out : List ℕ) (r : Reply (List ℕ)) (n : ℕ) → wroteOf r ≡ Refused n → leftOf out r ≡ out
+    refused out (value b) n e = clash (cc)
+    refused out (refusal m) n e = refl
+
+    written : (out : List ℕ) (reply : Reply (List ℕ)) (n : ℕ) → answer (length out) reply ≡ Bytes n
+        → (b : List ℕ) × (reply ≡ value b) × (length b ≡ n) × (n ≤ length out) × (left out reply ≡ b ++ drop n out)
+    written out (refusal m) n e = clash (cc)
+    written out (value b) n e = enough (leb (length b) (length out)) refl e
+      where
+        enough : (t : Bool) → leb (length b) (length out) ≡ t → wroteOf (question t noRoom >>= λ _. value b) ≡ Bytes n
+            → (c : List ℕ) × (value b ≡ value c) × (length c ≡ n) × (n ≤ length out) × (leftOf out (question t noRoom >>= λ _. value b) ≡ c ++ drop n out)
+        enough false u v = clash (cc)
+        enough true u v = let size : length b ≡ n = cc in (b, refl, size, rw (← size) (leb-true _ _ u), rw size)
+
+pub starts : Starts
+starts = record { possible = possible-starts }
+
+pub determined : Determined
+determined =
+    record {
+      judged = judged-determined;
+      impossible = impossible-determined;
+      overRange = overRange-determined;
+      estimates = λ net deeds s t one other p l. one .estimates p l ∙ sym (other .estimates p l);
+      unplaced = λ net deeds s t one other i l. one .unplacedNumbers i l ∙ sym (other .unplacedNumbers i l);
+    }
+
+pub promises : Promises
+promises =
+    record {
+      demand-1 = demand-1;
+      lists-on-bytes = lists-on-bytes;
+      lists-on-values = list-on-values;
+      starts = starts;
+      states-on-bytes = states-on-bytes;
+      states-on-values = state-on-values;
+      determined = determined;
+      meaning = one-meaning;
+      round-trips = round-trips;
+      longest = longest;
+      refusals-on-bytes = refusals-on-bytes;
+      refusals-on-values = refusals-on-values;
+    }
