@@ -1,4 +1,4 @@
--- A number is read back at the position where it was written, and what is read at a position is written there again by the same bytes.
+-- A number is read back where it was written, and what is read at a position is written there again by the same bytes.
 use Prim.Native.Nat.{ℕ, _+_, _≤_}
 use mathlib.Core.Path.{_≡_, refl, ap}
 use mathlib.Core.Bool.{true}
@@ -19,18 +19,20 @@ unfolding writtenAt writeAt room numberAt after
 written-read out at n small fits =
     let inside : at + length (form n) ≤ length out = leb-true (at + length (form n)) (length out) fits in
     let rest = drop (at + length (form n)) out in
-    rw fits
-    (refl, rw (append-assoc, drop-at (take at out) (form n ++ rest) at (length-take-le at out (omega arith)), read-write n rest small))
+    let found = drop-at (take at out) (form n ++ rest) at (length-take-le at out (omega arith)) in
+    rw fits (refl, rw (append-assoc, found, read-write n rest small))
 
-pub read-written : (bytes : List ℕ) (at n next : ℕ) → numberAt bytes at ≡ Number n next → (writeAt bytes at n ≡ bytes) × (writtenAt bytes at n ≡ Next next)
+pub read-written : (bytes : List ℕ) (at n next : ℕ) → numberAt bytes at ≡ Number n next
+    → (writeAt bytes at n ≡ bytes) × (writtenAt bytes at n ≡ Next next)
 unfolding numberAt after writtenAt writeAt room
 read-written bytes at n next e = go (number (drop at bytes)) refl e
   where
-    go : (f : Found) → number (drop at bytes) ≡ f → after at f ≡ Number n next → (writeAt bytes at n ≡ bytes) × (writtenAt bytes at n ≡ Next next)
+    go : (f : Found) → number (drop at bytes) ≡ f → after at f ≡ Number n next
+        → (writeAt bytes at n ≡ bytes) × (writtenAt bytes at n ≡ Next next)
     go nothing q u = absurd (let z : _≡_ {A = ℕ} 0 1 = cc in omega arith)
     go (found m size) q u =
         let same : m ≡ n = cc in
         let read = rw same at (write-read (drop at bytes) m size q) in
         let position : at + size ≡ next = cc in
-        rw (le-leb (at + length (form n)) (length bytes) (omega (arith, number-within bytes at n next e)), ← read .1, append-assoc, ← drop-drop, ← read .2, take-append-drop)
-        (refl, ap Next position)
+        let inside : at + length (form n) ≤ length bytes = omega (arith, number-within bytes at n next e) in
+        rw (le-leb _ _ inside, ← read .1, append-assoc, ← drop-drop, ← read .2, take-append-drop) (refl, ap Next position)

@@ -46,6 +46,13 @@ fit-fitting net fit =
       empty = λ i l none. fit .empty i l (place-no (net .places) (net .groups .home) (suc i) none);
     }
 
+-- recording leaves a state that fits
+pub recorded-fit : (net : Net) {s t : State} (number : ℕ) → Fit (net .places) (net .groups) s → recorded net s number ≡ value t
+    → Fit (net .places) (net .groups) t
+recorded-fit net {s} {t} number fit u =
+    let found = record-yes net s number t u in
+    rw (found .2) (fit-next net (found .0) fit (found .1 .range))
+
 -- these are the bytes of a state that fits
 pub record BytesOf (net : Net) (b : List ℕ) (s : State) : Type 0 where
   pub are : b ≡ saved net s
@@ -111,9 +118,7 @@ module _ (d left : List ℕ) (x : Parts) (e : parts d ≡ ok x left) where
 
       go : (r : Reply State) → recorded net s number ≡ r → Tied (BytesOf net) (fitting room (r >>= λ t. value (saved net t))) r
       go (refusal n) u = neither n
-      go (value t) u =
-          let found = record-yes net s number t u in
-          enough t (rw (found .2) (fit-next net (found .0) (of .fit) (found .1 .range))) (leb (length (saved net t)) room)
+      go (value t) u = enough t (recorded-fit net number (of .fit) u) (leb (length (saved net t)) room)
 
   -- the calls on bytes are tied to the theory's
   pub ties : Ties net (onBytes d) (BytesOf net)
@@ -153,7 +158,7 @@ module _ (d left : List ℕ) (x : Parts) (e : parts d ≡ ok x left) where
         go (value t) v w =
             let found = record-yes net s number t v in
             let same : saved net t ≡ after = cc in
-            let back = read-back after t (record { are = sym same; fit = rw (found .2) (fit-next net (found .0) (here .fit) (found .1 .range)) }) in
+            let back = read-back after t (record { are = sym same; fit = recorded-fit net number (here .fit) v }) in
             let alike : Alike net (back .0) (next net s (found .0)) = subst (λ (z : State). Alike net (back .0) z) (found .2) (alike-sym net (back .2)) in (
               back .0,
               back .1,
@@ -224,4 +229,5 @@ pub lists-on-bytes : (d : List ℕ) (net : Net) → described d ≡ value net �
 lists-on-bytes d = of-described d (λ net. (list : List Call) → ListsOnBytes d net list) (list-on-bytes d)
 
 pub states-on-bytes : (d : List ℕ) (net : Net) → described d ≡ value net → (b : List ℕ) (s : State) → stateIn net b ≡ value s → StateOnBytes d net b s
-states-on-bytes d = of-described d (λ net. (b : List ℕ) (s : State) → stateIn net b ≡ value s → StateOnBytes d net b s) (state-on-bytes d)
+states-on-bytes d =
+    of-described d (λ net. (b : List ℕ) (s : State) → stateIn net b ≡ value s → StateOnBytes d net b s) (state-on-bytes d)

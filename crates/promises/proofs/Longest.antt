@@ -39,7 +39,8 @@ use Rattle.promises.proofs.Meaning.{one-meaning}
 description-bounded : (d : List ℕ) (net : Theory.Net) → described d ≡ value net → length d ≤ longestDescription
 description-bounded d = of-described d (λ _. length d ≤ longestDescription) (longest-description d)
 
-state-bounded : (d : List ℕ) (net : Theory.Net) → described d ≡ value net → (b : List ℕ) (s : State) → stateIn net b ≡ value s → length b ≤ longestState
+state-bounded : (d : List ℕ) (net : Theory.Net) → described d ≡ value net
+    → (b : List ℕ) (s : State) → stateIn net b ≡ value s → length b ≤ longestState
 unfolding netFrom
 state-bounded d =
     of-described d (λ net. (b : List ℕ) (s : State) → stateIn net b ≡ value s → length b ≤ longestState) (λ left x e b s r.
@@ -69,13 +70,14 @@ full-lengths = (refl, refl)
 
 -- both are read
 full-read : (read (parts fullDescription) >>= λ x. stateIn (netIn x) fullState >>= λ s. value (s .estimate 0)) ≡ value bound
-unfolding fullDescription fullState valuesBytes joined flatMap form groups parts head limitsToEnd number Stored.number Stored.front Stored.before
-    Stored.small many end outermost memberList members innerGroups place group event limit entries row risingPlace arc term signedWithin signed
-    shared shareFits hasPlace every direct sum inner state stateFrom saved values States.value
+unfolding fullDescription fullState valuesBytes joined flatMap form groups number Stored.number Stored.front Stored.before
+    Stored.small parts head limitsToEnd many end outermost memberList members innerGroups place group event limit entries row
+    risingPlace arc term signedWithin signed shared shareFits hasPlace every direct sum inner state stateFrom saved values States.value
 full-read = refl
 
 -- of two questions that are answered, the first is
-first-value : {A B : Type 0} (r : Reply A) {k : A → Reply B} {b : B} → (r >>= k) ≡ value b → (a : A) × (r ≡ value a) × (k a ≡ value b)
+first-value : {A B : Type 0} (r : Reply A) {k : A → Reply B} {b : B} → (r >>= k) ≡ value b
+    → (a : A) × (r ≡ value a) × (k a ≡ value b)
 first-value (value a) e = (a, refl, e)
 first-value (refusal n) e = clash (cc)
 
@@ -93,7 +95,8 @@ state-met : (d : List ℕ) × (net : Theory.Net) × (described d ≡ value net)
 state-met =
     let said = first-value (read (parts fullDescription)) full-read in
     let kept = first-value (stateIn (netIn (said .0)) fullState) (said .2) in
-    (fullDescription, netIn (said .0), ap (λ (r : Reply Parts). r >>= λ x. value (netIn x)) (said .1), fullState, kept .0, kept .1, full-lengths .1)
+    let described = ap (λ (r : Reply Parts). r >>= λ x. value (netIn x)) (said .1) in
+    (fullDescription, netIn (said .0), described, fullState, kept .0, kept .1, full-lengths .1)
 
 pub longest : Longest
 longest =

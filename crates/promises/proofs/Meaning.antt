@@ -7,7 +7,7 @@ use Rattle.theory.specs.Nets.{SameNet}
 use Rattle.theory.specs.Recording.{State, fresh, known, unplaced}
 use Rattle.theory.specs.Replies.{Reply, value, refusal, _>>=_}
 use Rattle.theory.specs.Answers.{recorded, judged}
-use Rattle.theory.proofs.Answers.{clash, record-yes}
+use Rattle.theory.proofs.Answers.{clash}
 use Rattle.theory.proofs.Alike.{known-alike}
 use Rattle.theory.proofs.SameNet.{judge-same, recorded-same}
 use Rattle.codec.specs.Reader.{Result, ok, no, onward, done, read}
@@ -24,12 +24,13 @@ use Rattle.description.specs.Fine.{fine-good}
 use Rattle.states.specs.States.Writing.{Fit}
 use Rattle.states.specs.States.Inverse.{state-back}
 use Rattle.states.specs.States.Nets.{saved, restored}
-use Rattle.states.specs.States.Nets.Laws.{saved-alike, fit-next}
+use Rattle.states.specs.States.Nets.Laws.{saved-alike}
 use Rattle.observer.specs.Bytes.{netIn, described, stateIn, freshReply, recordReply, judgeReply, knownReply}
 use Rattle.observer.specs.Bytes.Laws.{fine, same-net}
 use Rattle.values.specs.Values.{restoredObserver, observerOutput, recordedObserver, observerJudged, observerKnown}
 use Rattle.values.specs.Values.Laws.{both-good, output-is, state-observer}
 use Rattle.promises.specs.Promises.{OneMeaning}
+use Rattle.promises.proofs.Bytes.{recorded-fit}
 use Rattle.promises.proofs.Values.{fresh-fit, same-recorded, same-judged}
 
 -- ---- on values, for a net that meets no question: the calls at what is restored are the theory's
@@ -42,7 +43,8 @@ module _ (net : Net) (checked : netCheck net ≡ Good) where
   unfolding restoredObserver
   restored-then call says same b = rw checked (go (restored (netOf net) b) refl)
     where
-      go : (r : Result State) → restored (netOf net) b ≡ r → ((read r >>= λ s. value (observerOf net s)) >>= call) ≡ (read r >>= says)
+      go : (r : Result State) → restored (netOf net) b ≡ r
+          → ((read r >>= λ s. value (observerOf net s)) >>= call) ≡ (read r >>= says)
       go (ok s left) u = same s (state-back (netOf net) (well-formed net checked .good .outward) b left s u .fit)
       go (no n) u = refl
 
@@ -51,14 +53,13 @@ module _ (net : Net) (checked : netCheck net ≡ Good) where
   fresh-output = rw checked (output-is net checked (fresh (netOf net)) (fresh-fit net checked))
 
   recorded-output : (number : ℕ) (s : State) → Fit (net .places) (groupsOf net) s
-      → (recordedObserver net (observerOf net s) number >>= observerOutput net) ≡ (recorded (netOf net) s number >>= λ t. value (saved (netOf net) t))
+      → (recordedObserver net (observerOf net s) number >>= observerOutput net)
+      ≡ (recorded (netOf net) s number >>= λ t. value (saved (netOf net) t))
   recorded-output number s fit = rw (same-recorded net checked s fit number) (go (recorded (netOf net) s number) refl)
     where
       go : (r : Reply State) → recorded (netOf net) s number ≡ r
           → ((r >>= λ t. value (observerOf net t)) >>= observerOutput net) ≡ (r >>= λ t. value (saved (netOf net) t))
-      go (value t) u =
-          let found = record-yes (netOf net) s number t u in
-          output-is net checked t (rw (found .2) (fit-next (netOf net) (found .0) fit (found .1 .range)))
+      go (value t) u = output-is net checked t (recorded-fit (netOf net) number fit u)
       go (refusal n) u = refl
 
   known-is : (s : State) → Fit (net .places) (groupsOf net) s → observerKnown net (observerOf net s) ≡ value (known (netOf net) s)
@@ -81,20 +82,24 @@ module _ (d left : List ℕ) (x : Parts) (e : parts d ≡ ok x left) where
   unfolding netFrom fresh
   fresh-one = sym (fresh-output net checked)
 
-  recorded-one : (b : List ℕ) (number : ℕ) → (stateIn (netIn x) b >>= λ s. recorded (netIn x) s number >>= λ t. value (saved (netIn x) t))
+  recorded-one : (b : List ℕ) (number : ℕ)
+      → (stateIn (netIn x) b >>= λ s. recorded (netIn x) s number >>= λ t. value (saved (netIn x) t))
       ≡ (restoredObserver net b >>= λ o. recordedObserver net o number >>= observerOutput net)
   unfolding netFrom
   recorded-one b number =
       sym (restored-then net checked (λ o. recordedObserver net o number >>= observerOutput net) _ (λ s fit.
-      recorded-output net checked number s fit ∙ sym (recorded-same same (saved (netIn x)) (λ t u. saved-alike (netIn x)) s number)) b)
+      recorded-output net checked number s fit
+      ∙ sym (recorded-same same (saved (netIn x)) (λ t u. saved-alike (netIn x)) s number)) b)
 
   judged-one : (b : List ℕ) (number : ℕ)
       → (stateIn (netIn x) b >>= λ s. judged (netIn x) s number) ≡ (restoredObserver net b >>= λ o. observerJudged net o number)
   unfolding netFrom
   judged-one b number =
-      sym (restored-then net checked (λ o. observerJudged net o number) _ (λ s fit. same-judged net checked s fit number ∙ sym (judge-same same s number)) b)
+      sym (restored-then net checked (λ o. observerJudged net o number) _ (λ s fit.
+      same-judged net checked s fit number ∙ sym (judge-same same s number)) b)
 
-  known-one : (b : List ℕ) → (stateIn (netIn x) b >>= λ s. value (known (netIn x) s)) ≡ (restoredObserver net b >>= observerKnown net)
+  known-one : (b : List ℕ)
+      → (stateIn (netIn x) b >>= λ s. value (known (netIn x) s)) ≡ (restoredObserver net b >>= observerKnown net)
   unfolding netFrom known unplaced
   known-one b = sym (restored-then net checked (observerKnown net) _ (known-is net checked) b)
 
@@ -106,11 +111,13 @@ module _ (d : List ℕ) where
   unfolding descriptionRead description
   described-then says call same = go (parts d) refl
     where
-      go : (r : Result Parts) → parts d ≡ r → ((read r >>= λ x. value (netIn x)) >>= says) ≡ (read (onward r (λ x. done (netFrom x))) >>= call)
+      go : (r : Result Parts) → parts d ≡ r
+          → ((read r >>= λ x. value (netIn x)) >>= says) ≡ (read (onward r (λ x. done (netFrom x))) >>= call)
       go (ok x left) u = same left x u
       go (no n) u = refl
 
-  net-one : (net : Net) → descriptionRead d ≡ value net → (other : Theory.Net) × (described d ≡ value other) × SameNet other (netOf net)
+  net-one : (net : Net) → descriptionRead d ≡ value net
+      → (other : Theory.Net) × (described d ≡ value other) × SameNet other (netOf net)
   unfolding descriptionRead description
   net-one net v = go (parts d) refl v
     where

@@ -34,7 +34,8 @@ demand-1 = record { refused = λ out reply n. refused out (fitting (length out) 
     written out (value b) n e = enough (leb (length b) (length out)) refl e
       where
         enough : (t : Bool) → leb (length b) (length out) ≡ t → wroteOf (question t noRoom >>= λ _. value b) ≡ Bytes n
-            → (c : List ℕ) × (value b ≡ value c) × (length c ≡ n) × (n ≤ length out) × (leftOf out (question t noRoom >>= λ _. value b) ≡ c ++ drop n out)
+            → (c : List ℕ) × (value b ≡ value c) × (length c ≡ n) × (n ≤ length out)
+            × (leftOf out (question t noRoom >>= λ _. value b) ≡ c ++ drop n out)
         enough false u v = clash (cc)
         enough true u v = let size : length b ≡ n = cc in (b, refl, size, rw (← size) (leb-true _ _ u), rw size)
 

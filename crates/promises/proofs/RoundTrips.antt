@@ -32,7 +32,8 @@ description-written : (net : Net) (b : List ℕ) → Full net → written net �
 unfolding written descriptionRead
 description-written net b full u = go (netCheck net) refl u
   where
-    go : (c : Checked) → netCheck net ≡ c → (checkedReply c >>= λ _. value (netBytes net)) ≡ value b → descriptionRead b ≡ value net
+    go : (c : Checked) → netCheck net ≡ c → (checkedReply c >>= λ _. value (netBytes net)) ≡ value b
+        → descriptionRead b ≡ value net
     go Good v w = let same : netBytes net ≡ b = cc in rw (← same, Descriptions.read-write net full v)
     go (Refused n) v w = clash (cc)
 
@@ -47,11 +48,15 @@ description-read net b u =
 state-written : (d : List ℕ) (net : Theory.Net) → described d ≡ value net → (s : State) → Fit (net .places) (net .groups) s
     → (t : State) × (stateIn net (saved net s) ≡ value t) × Alike net s t
 state-written d =
-    of-described d (λ net. (s : State) → Fit (net .places) (net .groups) s → (t : State) × (stateIn net (saved net s) ≡ value t) × Alike net s t)
+    of-described d
+    (λ net. (s : State) → Fit (net .places) (net .groups) s → (t : State) × (stateIn net (saved net s) ≡ value t) × Alike net s t)
     (λ left x e s fit. read-back d left x e (saved (netIn x) s) s (record { are = refl; fit = fit }))
 
-state-read : (d : List ℕ) (net : Theory.Net) → described d ≡ value net → (b : List ℕ) (s : State) → stateIn net b ≡ value s → saved net s ≡ b
-state-read d = of-described d (λ net. (b : List ℕ) (s : State) → stateIn net b ≡ value s → saved net s ≡ b) (λ left x e b s r. sym (read-are d left x e b s r .are))
+state-read : (d : List ℕ) (net : Theory.Net) → described d ≡ value net
+    → (b : List ℕ) (s : State) → stateIn net b ≡ value s → saved net s ≡ b
+state-read d =
+    of-described d (λ net. (b : List ℕ) (s : State) → stateIn net b ≡ value s → saved net s ≡ b)
+    (λ left x e b s r. sym (read-are d left x e b s r .are))
 
 pub round-trips : RoundTrips
 round-trips =

@@ -40,7 +40,7 @@ use Rattle.values.specs.Values.Laws.{before, both-good, both-passed, output-is,
 use Rattle.promises.specs.Lists.{bytesOf, onValues, memory}
 use Rattle.promises.specs.Promises.{onValuesTold, ListsOnValues, Leaves, StateOnValues}
 use Rattle.promises.proofs.Told.{values-told}
-use Rattle.promises.proofs.Bytes.{fit-fitting}
+use Rattle.promises.proofs.Bytes.{fit-fitting, recorded-fit}
 
 -- an observer of a state that fits
 pub record ObserverOf (net : Net) (o : Observer) (s : State) : Type 0 where
@@ -54,9 +54,7 @@ recorded-tied net s fit number = go (recorded (netOf net) s number) refl
   where
     go : (r : Reply State) → recorded (netOf net) s number ≡ r → Tied (ObserverOf net) (r >>= λ t. value (observerOf net t)) r
     go (refusal n) u = neither n
-    go (value t) u =
-        let found = record-yes (netOf net) s number t u in
-        both (observerOf net t) t (record { is = refl; fit = rw (found .2) (fit-next (netOf net) (found .0) fit (found .1 .range)) })
+    go (value t) u = both (observerOf net t) t (record { is = refl; fit = recorded-fit (netOf net) number fit u })
 
 -- ---- at an observer that fits the net
 
@@ -80,7 +78,8 @@ module _ (net : Net) (o : Observer) (met : bothCheck net o ≡ value tt) where
       (observedOf (recordedObserver net o (suc e)) .checked) (answerOf (observerJudged net o (suc e)))
   state-demand-3 e l =
       retold (values-told (recordedObserver net o (suc e)) (observerJudged net o (suc e)))
-      (retold (tied-told {R = ObserverOf net} (rw (recorded-is (suc e)) (recorded-tied net (stateOf o) fit (suc e))) (judged-is (suc e)))
+      (retold
+      (tied-told {R = ObserverOf net} (rw (recorded-is (suc e)) (recorded-tied net (stateOf o) fit (suc e))) (judged-is (suc e)))
       (Exact.demand-3 (netOf net) (good-net net checked) (stateOf o) (Within (netOf net) (stateOf o))
       (record { fitting = fit-fitting (netOf net) fit; sound = λ m w. w; complete = λ m w. w })
       (next (netOf net) (stateOf o) e .estimate) e (λ t p q. refl) l))
@@ -121,7 +120,8 @@ module _ (net : Net) (checked : netCheck net ≡ Good) where
   pub fresh-fit : Fit (net .places) (groupsOf net) (fresh (netOf net))
   fresh-fit =
       let well = well-formed net checked in
-      fit-fresh (netOf net) (well .good) (λ i l. rw (before net checked i) (well .valued .counts .small i (omega (arith, well .sized .groups))))
+      fit-fresh (netOf net) (well .good) (λ i l.
+      rw (before net checked i) (well .valued .counts .small i (omega (arith, well .sized .groups))))
 
   -- the calls at an observer of a state are the theory's at the state
   pub same-recorded : (s : State) → Fit (net .places) (groupsOf net) s → (number : ℕ)
@@ -131,7 +131,8 @@ module _ (net : Net) (checked : netCheck net ≡ Good) where
       rw (both-good net checked s fit)
       (recorded-alike (netOf net) (state-observer net checked s fit) (observerOf net) (λ t u. same-observer net checked) number)
 
-  pub same-judged : (s : State) → Fit (net .places) (groupsOf net) s → (number : ℕ) → observerJudged net (observerOf net s) number ≡ judged (netOf net) s number
+  pub same-judged : (s : State) → Fit (net .places) (groupsOf net) s → (number : ℕ)
+      → observerJudged net (observerOf net s) number ≡ judged (netOf net) s number
   unfolding observerJudged
   same-judged s fit number = rw (both-good net checked s fit) (judge-alike (netOf net) (state-observer net checked s fit) number)
 
