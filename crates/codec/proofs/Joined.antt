@@ -9,7 +9,7 @@ use borrow.Author.Tests.{lt-ltb, le-ltb}
 use lib.ListN.{length, getD, replicate, length-append}
 use lib.Seq.{ext-getD}
 use lib.Dec.{ltb}
-use Rattle.codec.specs.Joined.{joined, listed, firstOf, Each}
+use Rattle.codec.specs.Joined.{joined, listed, firstOf}
 
 -- ---- joined lists
 
@@ -103,6 +103,11 @@ module _ (size n : ℕ) where
       at i h (no l) = rw (le-ltb i n (omega arith)) (past i (omega arith) h)
 
 -- ---- each element
+
+-- is of a kind
+abbrev pub Each : {A : Type 0} → (A → Type 0) → List A → Type 0
+Each P [] = Unit
+Each P (a ∷ l) = P a × Each P l
 
 pub each-imp : {A : Type 0} {P Q : A → Type 0} (l : List A) → ((a : A) → P a → Q a) → Each P l → Each Q l
 each-imp [] h e = tt

@@ -7,12 +7,12 @@ use native.Mathlib.Omega.{arith}
 use borrow.Author.Tests.{leb-true}
 use lib.Dec.{leb}
 use lib.ListN.{length, take, drop, take-append-drop, length-append}
-use lib.Seq.{take-at, take-append-le, drop-append-le}
+use lib.Seq.{take-at, take-append-le}
 use Rattle.numbers.specs.Number.{largest, longestNumber, form, Found, found, nothing}
 use Rattle.numbers.specs.Number as Stored
 use Rattle.numbers.proofs.Number.{form-length, form-length-bounds, read-write, write-read}
 use Rattle.codec.specs.Reader.{Result, ok, no, Reader, onward, _>>=_, done, refuse, ask, fromFound, number, end, many}
-use Rattle.codec.proofs.Inverse.{no-ok, bind-then, number-back}
+use Rattle.codec.proofs.Inverse.{no-ok, bind-then, number-back, number-forth}
 
 -- what a reader finds where more bytes follow
 abbrev pub extended : {A : Type 0} → List ℕ → Result A → Result A
@@ -116,14 +116,14 @@ end-reads = record { takes = takes; decided = decided }
 
 module _ (s rest : List ℕ) where
   -- a number that is found is found where more bytes follow
-  pub found-extended : (n size : ℕ) → Stored.number s ≡ found n size → Stored.number (s ++ rest) ≡ found n size
-  found-extended n size e =
-      let read = write-read s n size e in
-      let whole : s ++ rest ≡ form n ++ (drop size s ++ rest) = ap (λ (l : List ℕ). l ++ rest) (read .2) ∙ append-assoc (form n) (drop size s) rest in
-      rw whole (read-write n (drop size s ++ rest) (read .0) ∙ ap (found n) (sym (read .1)))
+  pub number-longer : (n : ℕ) (left : List ℕ) → number s ≡ ok n left → number (s ++ rest) ≡ ok n (left ++ rest)
+  number-longer n left e =
+      let read = number-back s n left e in
+      let whole : s ++ rest ≡ form n ++ (left ++ rest) = ap (λ (l : List ℕ). l ++ rest) (read .1) ∙ append-assoc (form n) left rest in
+      rw whole (number-forth n (left ++ rest) (read .0))
 
   -- five bytes tell that there is none
-  pub nothing-extended : longestNumber ≤ length s → Stored.number s ≡ nothing → Stored.number (s ++ rest) ≡ nothing
+  nothing-extended : longestNumber ≤ length s → Stored.number s ≡ nothing → Stored.number (s ++ rest) ≡ nothing
   nothing-extended enough none = go (Stored.number (s ++ rest)) refl
     where
       go : (f : Found) → Stored.number (s ++ rest) ≡ f → f ≡ nothing
@@ -136,14 +136,12 @@ module _ (s rest : List ℕ) where
           let parts : s ≡ form n ++ drop k s = sym (take-append-drop k s) ∙ ap (λ (l : List ℕ). l ++ drop k s) same in
           cc (read-write n (drop k s) (read .0), ap Stored.number parts)
 
-  number-extended : longestNumber ≤ length s → number (s ++ rest) ≡ extended rest (number s)
+  pub number-extended : longestNumber ≤ length s → number (s ++ rest) ≡ extended rest (number s)
   unfolding number
   number-extended enough = go (Stored.number s) refl
     where
       go : (f : Found) → Stored.number s ≡ f → fromFound (s ++ rest) (Stored.number (s ++ rest)) ≡ extended rest (fromFound s f)
-      go (found n size) e =
-          let read = write-read s n size e in
-          rw (found-extended n size e, drop-append-le size s rest (omega (arith, simp length-append at (ap length (read .2)))))
+      go (found n size) e = number-longer n (drop size s) (ap (fromFound s) e)
       go nothing e = rw (nothing-extended enough e)
 
 -- the numbers below 128 ^ size have at most so many bytes

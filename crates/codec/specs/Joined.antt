@@ -16,8 +16,3 @@ listed n f = joined n (λ i. f i ∷ [])
 -- so many numbers, of which the first n are those of f and the others 0
 abbrev pub firstOf : ℕ → ℕ → (ℕ → ℕ) → List ℕ
 firstOf size n f = listed size (λ i. cond (ltb i n) (f i) 0)
-
--- each element is of a kind
-abbrev pub Each : {A : Type 0} → (A → Type 0) → List A → Type 0
-Each P [] = Unit
-Each P (a ∷ l) = P a × Each P l

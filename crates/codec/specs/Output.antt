@@ -6,6 +6,8 @@ use lib.ListN.{length, drop}
 use lib.Dec.{leb}
 use Rattle.theory.specs.Replies.{Reply, value, refusal, _>>=_, question}
 use Rattle.theory.specs.Answers.{noRoom}
+use Rattle.numbers.specs.declared.Written.{Written}
+use Rattle.numbers.specs.declared.Written.the-variants.{Next, Full}
 use Rattle.codec.specs.declared.Wrote.{Wrote}
 use Rattle.codec.specs.declared.Wrote.the-variants.{Bytes, Refused}
 
@@ -20,6 +22,16 @@ fitting room reply = do
 abbrev pub wroteOf : Reply (List ℕ) → Wrote
 wroteOf (value b) = Bytes (length b)
 wroteOf (refusal n) = Refused n
+
+-- the same the other way
+abbrev pub wroteReply : Wrote → Reply ℕ
+wroteReply (Bytes n) = value n
+wroteReply (Refused n) = refusal n
+
+-- what a number that is written tells: the position after it, or that it does not fit
+abbrev pub writtenReply : Written → Reply ℕ
+writtenReply (Next at) = value at
+writtenReply Full = refusal noRoom
 
 -- the output with the bytes at its front, or as it was
 abbrev pub leftOf : List ℕ → Reply (List ℕ) → List ℕ

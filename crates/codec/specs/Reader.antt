@@ -6,6 +6,8 @@ use lib.ListN.{length, drop}
 use Rattle.theory.specs.Replies.{Reply, value, refusal}
 use Rattle.codec.specs.declared.Passed.{Passed}
 use Rattle.codec.specs.declared.Passed.the-variants.{To, Refused}
+use Rattle.numbers.specs.declared.Read.{Read}
+use Rattle.numbers.specs.declared.Read.the-variants.{Number, Nothing}
 use Rattle.numbers.specs.Number.{Found, found, nothing}
 use Rattle.numbers.specs.Number as Stored
 
@@ -77,6 +79,16 @@ mapResult f (no n) = no n
 abbrev pub passed : {A : Type 0} → List ℕ → Result A → Passed
 passed bytes (ok a left) = To (length bytes - length left)
 passed bytes (no n) = Refused n
+
+-- what it tells: the position, or the refusal
+abbrev pub passedReply : Passed → Reply ℕ
+passedReply (To at) = value at
+passedReply (Refused n) = refusal n
+
+-- what a number that is read tells: it and the position after it; "Is each stored number complete, shortest and small enough? 1"
+abbrev pub readReply : Read → Reply (ℕ × ℕ)
+readReply (Number n at) = value (n, at)
+readReply Nothing = refusal 1
 
 -- what it found, or another value where it refused
 abbrev pub foundOr : {A : Type 0} → A → Result A → A

@@ -1,4 +1,3 @@
 -- What the walks share.
 pub mod Parts
-pub mod Handed
 pub mod Lent

@@ -3,9 +3,6 @@
 // thin, and each is proved by hand; what they call takes a plain slice and is covered. Whoever calls
 // `header_numbers` sees no cursor.
 ghost use mathlib.Core.Path.{_≡_};
-ghost use Prim.Native.Nat.{_-_};
-ghost use lib.Dec.{leb};
-ghost use lib.ListN.{length};
 ghost use Rattle.numbers.specs.Number.{numberAt};
 ghost use Rattle.cursor.specs.Cursors.{positionAfter, behind, headerNumbers};
 use numbers::Read;
@@ -32,20 +29,6 @@ impl<'a> Cursor<'a> {
         let read = numbers::read_number(self.description, at);
         self.at = position_after(read, at);
         read
-    }
-
-    // How many bytes are left; none where the position is past the end.
-    pub fn left(self) -> usize
-        ensures { λ r. ⌜ r ≡ length (now (self .entry .description)) - self .entry .at ⌝ }
-    {
-        bytes_from(self.description, self.at)
-    }
-
-    // Is no byte left?
-    pub fn at_end(self) -> bool
-        ensures { λ r. ⌜ r ≡ leb (length (now (self .entry .description))) (self .entry .at) ⌝ }
-    {
-        ends_at(self.description, self.at)
     }
 }
 
@@ -82,18 +65,4 @@ fn position_after(read: Read, at: usize) -> usize
         Read::Number(_, next) => next,
         Read::Nothing => at,
     }
-}
-
-// How many bytes a slice has from a position on.
-fn bytes_from(s: &[u8], at: usize) -> usize
-    ensures { λ r. ⌜ r ≡ length (now (s .entry)) - at ⌝ }
-{
-    if s.len() < at { 0 } else { s.len() - at }
-}
-
-// Does a slice end at a position, or before it?
-fn ends_at(s: &[u8], at: usize) -> bool
-    ensures { λ r. ⌜ r ≡ leb (length (now (s .entry))) at ⌝ }
-{
-    s.len() <= at
 }

@@ -1,37 +1,59 @@
--- A number that is read from the first bytes of the input is the one that is read from all of them, and five bytes tell that there is none.
-use Prim.Native.Nat.{ℕ, _+_, _≤_}
-use mathlib.Core.Path.{_≡_, refl, subst}
-use mathlib.Core.List.{List, [], _++_}
+-- Buffers: what stays of one that is read into, and bytes that are moved to its front.
+use Prim.Native.Nat.{ℕ, _+_, _≤_, _<_}
+use mathlib.Core.Path.{_≡_, refl, sym, ap, _∙_}
+use mathlib.Core.List.{List}
 use native.Mathlib.Omega.{arith}
-use lib.ListN.{length, drop, length-drop}
-use lib.Seq.{drop-append-le}
-use Rattle.numbers.specs.declared.Read.the-variants.{Number, Nothing}
-use Rattle.numbers.specs.Number.{Found, found, nothing, number, after, numberAt}
-use Rattle.codec.proofs.Longest.{found-extended, nothing-extended}
-use Rattle.journal.specs.declared.input.Next.{Next}
-use Rattle.journal.specs.declared.input.Next.the-variants as Next
-use Rattle.journal.specs.Buffers.{longestNumber, Tells}
+use native.Mathlib.Decide.{ℕ-discrete}
+use lib.ListN.{length, getD, take, drop, set, length-set, length-take, length-drop}
+use lib.Seq.{take-take, ext-getD, getD-take, getD-drop, getD-set-same, getD-set-other}
 
-module _ (seen : List ℕ) (at : ℕ) (rest : List ℕ) (within : at ≤ length seen) where
-  after-seen : drop at (seen ++ rest) ≡ drop at seen ++ rest
-  after-seen = drop-append-le at seen rest within
+-- the first bytes of a buffer are kept
+pub record Kept (before : List ℕ) (held : ℕ) (space : List ℕ) : Type 0 where
+  pub long : length space ≡ length before
+  pub same : take held space ≡ take held before
 
-  pub number-early : (n next : ℕ) → numberAt seen at ≡ Number n next → numberAt (seen ++ rest) at ≡ Number n next
-  unfolding numberAt after
-  number-early n next e = rw after-seen (go (number (drop at seen)) refl e)
+pub kept-none : (before : List ℕ) (held : ℕ) → Kept before held before
+kept-none before held = record { long = refl; same = refl }
+
+-- a read leaves those before the position where it starts
+pub kept-more : {before : List ℕ} {held : ℕ} {space after : List ℕ} → Kept before held space → length after ≡ length space → (end : ℕ) → held ≤ end
+    → take end after ≡ take end space → Kept before held after
+kept-more {held} {space} {after} kept long end below same =
+    record { long = long ∙ kept .long; same = sym (take-take held end after below) ∙ ap (take held) same ∙ take-take held end space below ∙ kept .same }
+
+-- they are, and so many bytes of the buffer are read
+pub record Filling (before : List ℕ) (held : ℕ) (space : List ℕ) (end : ℕ) : Type 0 where
+  pub grown : held ≤ end
+  pub within : end ≤ length space
+  pub kept : Kept before held space
+
+-- the first bytes come from a position on, and the others stand as they were
+pub record Moving (before : List ℕ) (at count : ℕ) (space : List ℕ) (i : ℕ) : Type 0 where
+  pub within : i ≤ count
+  pub long : length space ≡ length before
+  pub moved : (j : ℕ) → j < i → getD space j 0 ≡ getD before (at + j) 0
+  pub left : (j : ℕ) → i ≤ j → getD space j 0 ≡ getD before j 0
+
+pub moving-none : (before : List ℕ) (at count : ℕ) → Moving before at count before 0
+moving-none before at count = record { within = omega arith; long = refl; moved = λ j l. absurd (let z : ⊥ = omega arith in z); left = λ j l. refl }
+
+module _ {before : List ℕ} {at count : ℕ} {space : List ℕ} {i : ℕ} (m : Moving before at count space i) (room : at + count ≤ length before) where
+  pub moving-more : i < count → Moving before at count (set space i (getD space (at + i) 0)) (i + 1)
+  moving-more h =
+      record {
+        within = omega arith;
+        long = length-set space i _ ∙ m .long;
+        moved = λ j l. go j l (ℕ-discrete j i);
+        left = λ j l. getD-set-other space i j (getD space (at + i) 0) 0 (λ z. omega arith) ∙ m .left j (omega arith);
+      }
     where
-      go : (f : Found) → number (drop at seen) ≡ f → after at f ≡ Number n next → after at (number (drop at seen ++ rest)) ≡ Number n next
-      go (found m size) u v = rw (found-extended (drop at seen) rest m size u) v
-      go nothing u v = absurd (let z : _≡_ {A = ℕ} 0 1 = cc in omega arith)
+      go : (j : ℕ) → j < i + 1 → Dec (j ≡ i) → getD (set space i (getD space (at + i) 0)) j 0 ≡ getD before (at + j) 0
+      go j l (yes e) = rw e (getD-set-same space i (getD space (at + i) 0) 0 (omega (arith, m .long)) ∙ m .left (at + i) (omega arith))
+      go j l (no e) = getD-set-other space i j (getD space (at + i) 0) 0 e ∙ m .moved j (omega arith)
 
-  pub number-late : at + longestNumber ≤ length seen → numberAt seen at ≡ Nothing → numberAt (seen ++ rest) at ≡ Nothing
-  unfolding numberAt after
-  number-late enough e = rw after-seen (go (number (drop at seen)) refl e)
-    where
-      go : (f : Found) → number (drop at seen) ≡ f → after at f ≡ Nothing → after at (number (drop at seen ++ rest)) ≡ Nothing
-      go (found m size) u v = absurd (let z : _≡_ {A = ℕ} 0 1 = cc in omega arith)
-      go nothing u v = rw (nothing-extended (drop at seen) rest (simp length-drop (omega arith)) u)
-
--- a number that the bytes seen tell ends among them
-pub told-within : (seen : List ℕ) (at n next : ℕ) {r : Next} → ((rest : List ℕ) → Tells seen at rest r) → r ≡ Next.Number n next → next ≤ length seen
-told-within seen at n next tells e = subst (Tells seen at []) e (tells []) .0
+  pub moving-all : count ≤ i → take count space ≡ take count (drop at before)
+  moving-all h =
+      ext-getD 0 (take count space) (take count (drop at before)) (simp (length-take, length-drop) (omega (arith, m .long)))
+      (λ j l.
+      let few : j < count = omega (arith, simp length-take at l) in
+      getD-take count space j 0 few ∙ m .moved j (omega (arith, m .within)) ∙ sym (getD-take count (drop at before) j 0 few ∙ getD-drop at before j 0))

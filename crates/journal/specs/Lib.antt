@@ -1,3 +1,4 @@
-pub mod Buffers
-pub mod Events
 pub mod Lines
+pub mod Printed
+pub mod Passing
+pub mod Streams

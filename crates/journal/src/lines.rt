@@ -1,36 +1,17 @@
-// Lines to standard output by way of a buffer.
-use libc::STDOUT_FILENO;
+// Lines as bytes (specs/Lines.antt), put into the output at a position.
 use net::Answer;
 use net::Verdict;
-ghost use mathlib.Core.Path.{_≡_};
-ghost use Prim.Native.Nat.{_+_, _*_, _≤_};
-ghost use lib.ListN.{length};
-ghost use lib.Seq.{paste};
-ghost use Rattle.journal.specs.Buffers.{longestLine};
-ghost use Rattle.journal.specs.Lines.{Spelled};
+ghost use Prim.Native.Nat.{_+_, _≤_};
+ghost use mathlib.Core.Bool.{true};
+ghost use mathlib.Core.List.{List, [], _∷_, _++_};
+ghost use lib.ListN.{length, getD};
+ghost use Rattle.codec.specs.Walk.{Room, Walked};
+ghost use Rattle.journal.specs.Lines.{decimal, space, newline, answerBytes, spaced, lineBytes, refusedBytes, longestLine};
 
-// No line is longer: 98 numbers of at most 10 digits, 98 blanks, a word and a newline.
-const LINE: usize = 1086;
-
-// The last line, where the input can't be read on.
-pub fn refuse(refusal: u32) {
-    io::write_all(STDOUT_FILENO, b"refused ");
-    io::print_decimal(STDOUT_FILENO, refusal as u64);
-    io::write_all(STDOUT_FILENO, b"\n");
-}
-
-// Writes out what the buffer has.
-pub fn flush(out: &[u8], used: usize)
-    requires { ⌜ used ≤ length (now out) ⌝ }
-{
-    io::write_all(STDOUT_FILENO, &out[0..used]);
-}
-
-// Puts a line after the bytes that the buffer has, or in their place once they are written out
-// where there is too little room; how many bytes it has then.
-pub fn line<'a>(
+// The line of an event; the position after it.
+pub fn put_line<'a>(
     out: &mut [u8],
-    used: usize,
+    at: usize,
     event: u32,
     answer: Answer,
     places: usize,
@@ -38,35 +19,32 @@ pub fn line<'a>(
     groups: usize,
     numbers: &'a [u32; 32],
 ) -> usize
-    requires { ⌜ longestLine ≤ length (now out) ⌝ }
-    requires { ⌜ used ≤ length (now out) ⌝ }
-    ensures { λ r. ⌜ r ≤ length (now (out .entry)) ⌝ }
+    requires { ⌜ at + longestLine ≤ length (now out) ⌝ }
+    requires { ⌜ places ≤ 64 ⌝ }
+    requires { ⌜ groups ≤ 32 ⌝ }
+    ensures { λ r. ⌜ Walked true (now (out .entry)) at (lineBytes event answer places (λ p. getD (now (estimates .entry)) p 0) groups (λ i. getD (now (numbers .entry)) i 0)) (now (out .exit)) r ⌝ }
 {
-    let start = with_room(out, used);
-    let at = put_number(out, start, event);
-    let at = put_answer(out, at, answer);
-    let at = put_numbers(out, at, 64, estimates, places);
-    let at = put_numbers(out, at, 32, numbers, groups);
-    put_text(out, at, b"\n")
+    let next = put_number(out, at, event);
+    let next = put_answer(out, next, answer);
+    let next = put_numbers(out, next, places, estimates);
+    let next = put_numbers(out, next, groups, numbers);
+    put_byte(out, next, b'\n')
 }
 
-// How many bytes of the buffer are kept so that there is room for a line.
-fn with_room(out: &[u8], used: usize) -> usize
-    requires { ⌜ longestLine ≤ length (now out) ⌝ }
-    requires { ⌜ used ≤ length (now out) ⌝ }
-    ensures { λ r. ⌜ r + longestLine ≤ length (now (out .entry)) ⌝ }
+// The ending of a journal that is refused; the position after it.
+pub fn put_refusal(out: &mut [u8], at: usize, refusal: u32) -> usize
+    requires { ⌜ at + longestLine ≤ length (now out) ⌝ }
+    ensures { λ r. ⌜ Walked true (now (out .entry)) at (refusedBytes refusal) (now (out .exit)) r ⌝ }
 {
-    if out.len() - used < LINE {
-        flush(out, used);
-        return 0;
-    }
-    used
+    let next = put_text(out, at, b"refused ");
+    let next = put_number(out, next, refusal);
+    put_byte(out, next, b'\n')
 }
 
-// The word, and the limit or the refusal or 0.
+// A space, the word, a space, and the limit or the refusal or 0.
 fn put_answer(out: &mut [u8], at: usize, answer: Answer) -> usize
-    requires { ⌜ at + 19 ≤ length (now out) ⌝ }
-    ensures { λ r. ⌜ r ≤ at + 19 ⌝ }
+    requires { ⌜ Room true (now out) at (space ∷ answerBytes answer) ⌝ }
+    ensures { λ r. ⌜ Walked true (now (out .entry)) at (space ∷ answerBytes answer) (now (out .exit)) r ⌝ }
 {
     match answer {
         Answer::Given(verdict) => match verdict {
@@ -77,53 +55,68 @@ fn put_answer(out: &mut [u8], at: usize, answer: Answer) -> usize
     }
 }
 
-// The first of so many numbers, each after a blank.
-fn put_numbers(out: &mut [u8], at: usize, size: usize, numbers: &[u32], count: usize) -> usize
-    requires { ⌜ size ≤ length (now numbers) ⌝ }
-    requires { ⌜ at + 11 * size ≤ length (now out) ⌝ }
-    ensures { λ r. ⌜ r ≤ at + 11 * size ⌝ }
+// The first of these numbers, so many, each after a space.
+fn put_numbers(out: &mut [u8], at: usize, count: usize, numbers: &[u32]) -> usize
+    requires { ⌜ count ≤ length (now numbers) ⌝ }
+    requires { ⌜ Room true (now out) at (spaced count (λ i. getD (now numbers) i 0)) ⌝ }
+    ensures { λ r. ⌜ Walked true (now (out .entry)) at (spaced count (λ i. getD (now (numbers .entry)) i 0)) (now (out .exit)) r ⌝ }
 {
     let mut next = at;
     let mut i = 0;
-    while i < size {
-        if count <= i {
-            return next;
-        }
-        next = put_numbered(out, next, b" ", numbers[i]);
+    while i < count {
+        next = put_spaced(out, next, numbers[i]);
         i += 1;
     }
     next
 }
 
-// The text at a position and the number's decimal digits after it; the position after them.
+// A space and the number.
+fn put_spaced(out: &mut [u8], at: usize, number: u32) -> usize
+    requires { ⌜ Room true (now out) at (space ∷ decimal number) ⌝ }
+    ensures { λ r. ⌜ Walked true (now (out .entry)) at (space ∷ decimal number) (now (out .exit)) r ⌝ }
+{
+    let next = put_byte(out, at, b' ');
+    put_number(out, next, number)
+}
+
+// The text and the number.
 fn put_numbered(out: &mut [u8], at: usize, text: &[u8], number: u32) -> usize
-    requires { ⌜ at + length (now text) + 10 ≤ length (now out) ⌝ }
-    ensures { λ r. ⌜ r ≤ at + length (now (text .entry)) + 10 ⌝ }
+    requires { ⌜ Room true (now out) at (now text ++ decimal number) ⌝ }
+    ensures { λ r. ⌜ Walked true (now (out .entry)) at (now (text .entry) ++ decimal number) (now (out .exit)) r ⌝ }
 {
     let next = put_text(out, at, text);
     put_number(out, next, number)
 }
 
-// The number's decimal digits at a position; the position after them.
+// The number in decimal: its last digit after those of a tenth of it.
 fn put_number(out: &mut [u8], at: usize, number: u32) -> usize
-    requires { ⌜ at + 10 ≤ length (now out) ⌝ }
-    ensures { λ r. ⌜ Spelled number at (now (out .entry)) (now (out .exit)) r ⌝ }
+    requires { ⌜ Room true (now out) at (decimal number) ⌝ }
+    ensures { λ r. ⌜ Walked true (now (out .entry)) at (decimal number) (now (out .exit)) r ⌝ }
 {
-    let mut digits = [0u8; 20];
-    let count = io::decimal(number as u64, &mut digits);
-    put_text(out, at, &digits[..count])
+    if number < 10 {
+        return put_byte(out, at, (48 + number) as u8);
+    }
+    let next = put_number(out, at, number / 10);
+    put_byte(out, next, (48 + number % 10) as u8)
 }
 
-// The text at a position; the position after it.
 fn put_text(out: &mut [u8], at: usize, text: &[u8]) -> usize
-    requires { ⌜ at + length (now text) ≤ length (now out) ⌝ }
-    ensures { λ r. ⌜ r ≡ at + length (now (text .entry)) ⌝ }
-    ensures { λ _. ⌜ now (out .exit) ≡ paste (now (out .entry)) at (now (text .entry)) (length (now (text .entry))) ⌝ }
+    requires { ⌜ Room true (now out) at (now text) ⌝ }
+    ensures { λ r. ⌜ Walked true (now (out .entry)) at (now (text .entry)) (now (out .exit)) r ⌝ }
 {
+    let mut next = at;
     let mut i = 0;
     while i < text.len() {
-        out[at + i] = text[i];
+        next = put_byte(out, next, text[i]);
         i += 1;
     }
-    at + i
+    next
+}
+
+fn put_byte(out: &mut [u8], at: usize, byte: u8) -> usize
+    requires { ⌜ Room true (now out) at (byte ∷ []) ⌝ }
+    ensures { λ r. ⌜ Walked true (now (out .entry)) at (byte ∷ []) (now (out .exit)) r ⌝ }
+{
+    out[at] = byte;
+    at + 1
 }

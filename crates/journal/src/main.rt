@@ -1,20 +1,27 @@
 // The journal (01, "The pool of three"): a description after its length and then event numbers from
-// standard input; a line for each event to standard output. It keeps the net and one state, however
-// many events there are.
+// standard input; a line for each event to standard output. What is put out at each step is proved to
+// be what specs/Printed.antt says; here it is read and written. The net is read once and one state
+// kept, however many events there are.
+mod events;
 mod input;
 mod lines;
+mod opening;
+mod streams;
 
-use input::Found;
-use input::Next;
+use events::Stop;
 use net::Checked;
 use net::Net;
 use net::Observer;
-ghost use mathlib.Core.Path.{_≡_};
+use opening::Located;
+use streams::Filled;
+use streams::More;
+use streams::Skipped;
 ghost use Prim.Native.Nat.{_+_, _≤_};
 ghost use lib.ListN.{length};
-ghost use Rattle.values.specs.Values.{recordedObserver};
-ghost use Rattle.journal.specs.Buffers.{longestNumber, longestLine};
-ghost use Rattle.journal.specs.Events.{kept};
+ghost use Rattle.numbers.specs.Number.{longestNumber};
+ghost use Rattle.description.specs.Read.{longestDescription};
+ghost use Rattle.journal.specs.Lines.{longestLine};
+ghost use Rattle.journal.specs.Passing.{Running};
 
 fn main() {
     // 32,768 bytes: more than the longest description has, 24,005, and its length before it
@@ -24,121 +31,139 @@ fn main() {
 }
 
 fn journal(space: &mut [u8], out: &mut [u8])
-    requires { ⌜ longestNumber ≤ length (now space) ⌝ }
+    requires { ⌜ longestNumber + longestDescription + longestNumber ≤ length (now space) ⌝ }
     requires { ⌜ longestLine ≤ length (now out) ⌝ }
 {
-    let found = input::find_description(space);
-    match found {
-        Found::Refused(refusal) => {
-            lines::refuse(refusal);
+    let Filled::To(held) = streams::fill(space, 0, input::LONGEST_NUMBER) else {
+        return;
+    };
+    let located = opening::locate(&space[..held], out);
+    match located {
+        Located::Refused(used) => {
+            streams::write_out(out, used);
         }
-        Found::At(start, end, held) => {
-            let read = description::read_description(&space[start..end]);
-            let checked = read.checked;
-            if let Checked::Refused(refusal) = checked {
-                lines::refuse(refusal);
-                return;
-            }
-            events(read.net, space, end, held, out);
+        Located::At(start, size) => {
+            describe(space, held, start, size, out);
         }
     }
 }
 
-// The events that stand from the position on, of which so many bytes are in the buffer. What was
-// written is handed on before each read: a line never waits for the next event.
-fn events(net: Net, space: &mut [u8], start: usize, held: usize, out: &mut [u8])
-    requires { ⌜ start ≤ held ⌝ }
-    requires { ⌜ held ≤ length (now space) ⌝ }
+// The description, whose size is known and whose first bytes are in the buffer.
+fn describe(space: &mut [u8], held: usize, start: usize, size: usize, out: &mut [u8])
+    requires { ⌜ longestNumber + longestDescription + longestNumber ≤ length (now space) ⌝ }
+    requires { ⌜ (start ≤ held) × (held ≤ length (now space)) × (start ≤ longestNumber) ⌝ }
     requires { ⌜ longestLine ≤ length (now out) ⌝ }
 {
-    // a net that was read meets no question, so this isn't refused
-    let fresh = Observer::fresh(net);
-    let mut observer = fresh.observer;
+    let room = space.len() - start;
+    if room < size {
+        describe_long(space, held, start, size - room, out);
+        return;
+    }
+    let end = start + size;
+    let Filled::To(held) = streams::fill(space, held, end) else {
+        return;
+    };
+    if held < end {
+        let used = opening::cut_short(out);
+        streams::write_out(out, used);
+        return;
+    }
+    let opened = opening::open(&space[..held], start, end, out);
+    let checked = opened.checked;
+    match checked {
+        Checked::Refused(_) => {
+            streams::write_out(out, opened.used);
+        }
+        Checked::Good => {
+            run(opened.net, opened.observer, space, end, held, out);
+        }
+    }
+}
+
+// A description that goes on for so many bytes after the buffer. It is refused, but a length past the
+// input comes first.
+fn describe_long(space: &mut [u8], held: usize, start: usize, beyond: usize, out: &mut [u8])
+    requires { ⌜ longestNumber + longestDescription + longestNumber ≤ length (now space) ⌝ }
+    requires { ⌜ (held ≤ length (now space)) × (start ≤ longestNumber) ⌝ }
+    requires { ⌜ longestLine ≤ length (now out) ⌝ }
+{
+    let room = space.len();
+    let Filled::To(held) = streams::fill(space, held, room) else {
+        return;
+    };
+    if held < room {
+        let used = opening::cut_short(out);
+        streams::write_out(out, used);
+        return;
+    }
+    let used = opening::refuse_long(space, start, out);
+    let skipped = streams::skip(space, beyond);
+    match skipped {
+        Skipped::All => {
+            streams::write_out(out, used);
+        }
+        Skipped::End => {
+            let used = opening::cut_short(out);
+            streams::write_out(out, used);
+        }
+        Skipped::Failed => {}
+    }
+}
+
+// The events that stand from the position on, of which so many bytes are in the buffer. What was put
+// out is written before each read: a line never waits for the next event.
+fn run(net: Net, observer: Observer, space: &mut [u8], start: usize, held: usize, out: &mut [u8])
+    requires { ⌜ Running net (observer .estimates) (observer .remainders) ⌝ }
+    requires { ⌜ (start ≤ held) × (held ≤ length (now space)) ⌝ }
+    requires { ⌜ longestLine ≤ length (now out) ⌝ }
+{
+    let mut estimates = observer.estimates;
+    let mut remainders = observer.remainders;
     let mut at = start;
     let mut end = held;
-    let mut used = 0;
     // A proved loop has to end, and nothing says that the input does: so many turns no run uses up.
     let mut turns = u64::MAX;
     while 0 < turns {
         turns -= 1;
-        let next = input::next_number(&space[0..end], at);
-        match next {
-            Next::Number(event, after) => {
-                let kept = recorded(net, observer, event);
-                used = event_line(out, used, net, observer, kept, event);
-                observer = kept;
-                at = after;
+        let pass = events::pass_events(
+            net,
+            &space[..end],
+            at,
+            &mut estimates,
+            &mut remainders,
+            out,
+        );
+        if !streams::write_out(out, pass.used) {
+            return;
+        }
+        at = pass.at;
+        let stop = pass.stop;
+        match stop {
+            Stop::Ended => {
+                return;
             }
-            _ => {
-                lines::flush(out, used);
+            Stop::Full => {}
+            Stop::Short => {
                 let left = end - at;
-                let more = read_more(space, at, left, next);
-                if more == 0 {
+                streams::move_down(space, at, left);
+                let more = streams::read_more(space, left);
+                let More::Bytes(came) = more else {
+                    finish(left, more, out);
                     return;
-                }
-                used = 0;
+                };
                 at = 0;
-                end = left + more;
+                end = left + came;
             }
         }
     }
 }
 
-// Puts the line of an event into the buffer, of which so many bytes are used, with the observers
-// before and after it; how many are used then.
-fn event_line(
-    out: &mut [u8],
-    used: usize,
-    net: Net,
-    before: Observer,
-    after: Observer,
-    event: u32,
-) -> usize
+// Where the input has ended: the bytes that are left of it tell no number.
+fn finish(left: usize, more: More, out: &mut [u8])
     requires { ⌜ longestLine ≤ length (now out) ⌝ }
-    requires { ⌜ used ≤ length (now out) ⌝ }
-    ensures { λ r. ⌜ r ≤ length (now (out .entry)) ⌝ }
 {
-    let answer = values::judge_event(net, before, event);
-    let unplaced = values::unplaced(net, after);
-    lines::line(
-        out,
-        used,
-        event,
-        answer,
-        net.places,
-        &after.estimates,
-        net.groups,
-        &unplaced.numbers,
-    )
-}
-
-// Reads on where more bytes are needed to tell the next number: how many came, none where the input
-// ends or no stored number stands there. A number that isn't whole by then is refused.
-fn read_more(space: &mut [u8], at: usize, left: usize, next: Next) -> usize
-    requires { ⌜ at + left ≤ length (now space) ⌝ }
-    ensures { λ r. ⌜ left + r ≤ length (now (space .entry)) ⌝ }
-{
-    if let Next::IllFormed = next {
-        lines::refuse(1);
-        return 0;
+    if let More::End = more {
+        let used = events::leave(left, out);
+        streams::write_out(out, used);
     }
-    let more = input::refill(space, at, left);
-    if more == 0 {
-        if 0 < left {
-            lines::refuse(1);
-        }
-    }
-    more
-}
-
-// The observer after an event, a held one too, or the same where the event is refused.
-fn recorded(net: Net, observer: Observer, event: u32) -> Observer
-    ensures { λ r. ⌜ r ≡ kept (recordedObserver net observer event) observer ⌝ }
-{
-    let observed = values::record_event(net, observer, event);
-    let checked = observed.checked;
-    if let Checked::Refused(_) = checked {
-        return observer;
-    }
-    observed.observer
 }

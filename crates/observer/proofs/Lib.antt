@@ -1,4 +1,5 @@
--- Laws that the proofs of the code cite.
+-- The net of a description, and what the proofs of the code cite.
+pub mod Described
 pub mod Outlined
 pub mod OutlinedCalls
 pub mod OutlinedJudging

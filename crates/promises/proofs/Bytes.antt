@@ -27,13 +27,14 @@ use Rattle.codec.specs.Reader.{ok, read}
 use Rattle.codec.proofs.Inverse.{read-ok}
 use Rattle.codec.specs.Output.{fitting, answer}
 use Rattle.net.specs.Answers.{answerOf}
+use Rattle.net.proofs.Check.{no-place}
 use Rattle.description.specs.Grammar.{Parts, parts, netFrom}
 use Rattle.states.specs.States.Writing.{Fit}
-use Rattle.states.specs.States.Inverse.{state-forth, state-back}
+use Rattle.states.proofs.Inverse.{state-forth, state-back}
 use Rattle.states.specs.States.Nets.{saved, restored}
-use Rattle.states.specs.States.Nets.Laws.{place-no, saved-alike, fit-next, fit-fresh}
+use Rattle.states.proofs.Nets.{saved-alike, fit-next, fit-fresh}
 use Rattle.observer.specs.Bytes.{netIn, described, stateIn, freshReply, recordReply, judgeReply, knownReply}
-use Rattle.observer.specs.Bytes.Laws.{fine, good}
+use Rattle.observer.proofs.Described.{fine, good}
 use Rattle.promises.specs.Lists.{onBytes, host}
 use Rattle.promises.specs.Promises.{onBytesTold, estimateAfter, ListsOnBytes, Leaves, StateOnBytes}
 use Rattle.promises.proofs.Told.{bytes-told, in-numbers}
@@ -43,7 +44,7 @@ pub fit-fitting : (net : Net) {s : State} → Fit (net .places) (net .groups) s 
 fit-fitting net fit =
     record {
       ordered = λ i l. omega (arith, fit .exact i l);
-      empty = λ i l none. fit .empty i l (place-no (net .places) (net .groups .home) (suc i) none);
+      empty = λ i l none. fit .empty i l (no-place (net .places) (net .groups .home) (suc i) none);
     }
 
 -- recording leaves a state that fits

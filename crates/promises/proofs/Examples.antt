@@ -21,7 +21,7 @@ use Rattle.net.specs.Check.{shared, shareFits, hasPlace}
 use Rattle.members.specs.Members.{place, innerGroups, members, memberList, group, outermost}
 use Rattle.rows.specs.Rows.{entries, row, risingPlace, filled, arc, event, signedWithin, term, limit}
 use Rattle.description.specs.Grammar.{head, limitsToEnd, parts}
-use Rattle.description.specs.Examples.{poolBytes}
+use Rattle.description.proofs.Examples.{poolBytes}
 use Rattle.states.specs.States as States
 use Rattle.states.specs.States.{values, saved, stateFrom, state}
 use Rattle.states.specs.States.Writing.{valuesBytes, stateBytes}

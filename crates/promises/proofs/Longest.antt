@@ -29,7 +29,7 @@ use Rattle.states.specs.States.Writing.{valuesBytes}
 use Rattle.states.specs.States.Nets.{longestState, restored}
 use Rattle.states.proofs.Longest.{longest-state}
 use Rattle.observer.specs.Bytes.{netIn, described, stateIn}
-use Rattle.observer.specs.Bytes.Laws.{fine}
+use Rattle.observer.proofs.Described.{fine}
 use Rattle.promises.specs.Promises.{Longest}
 use Rattle.promises.proofs.Bytes.{of-described}
 use Rattle.promises.proofs.Meaning.{one-meaning}

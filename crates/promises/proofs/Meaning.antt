@@ -17,18 +17,18 @@ use Rattle.net.specs.declared.Checked.the-variants.{Good}
 use Rattle.net.specs.View.{groupsOf, netOf}
 use Rattle.net.specs.Check.{netCheck}
 use Rattle.net.specs.Observers.{observerOf, freshObserver}
-use Rattle.net.specs.Check.Laws.{well-formed}
+use Rattle.net.proofs.Check.{well-formed}
 use Rattle.description.specs.Grammar.{Parts, parts, netFrom, description}
 use Rattle.description.specs.Read.{descriptionRead}
-use Rattle.description.specs.Fine.{fine-good}
+use Rattle.description.proofs.Fine.{fine-good}
 use Rattle.states.specs.States.Writing.{Fit}
-use Rattle.states.specs.States.Inverse.{state-back}
+use Rattle.states.proofs.Inverse.{state-back}
 use Rattle.states.specs.States.Nets.{saved, restored}
-use Rattle.states.specs.States.Nets.Laws.{saved-alike}
+use Rattle.states.proofs.Nets.{saved-alike}
 use Rattle.observer.specs.Bytes.{netIn, described, stateIn, freshReply, recordReply, judgeReply, knownReply}
-use Rattle.observer.specs.Bytes.Laws.{fine, same-net}
+use Rattle.observer.proofs.Described.{fine, same-net}
 use Rattle.values.specs.Values.{restoredObserver, observerOutput, recordedObserver, observerJudged, observerKnown}
-use Rattle.values.specs.Values.Laws.{both-good, output-is, state-observer}
+use Rattle.values.proofs.Observers.{both-good, output-is, state-observer}
 use Rattle.promises.specs.Promises.{OneMeaning}
 use Rattle.promises.proofs.Bytes.{recorded-fit}
 use Rattle.promises.proofs.Values.{fresh-fit, same-recorded, same-judged}

@@ -1,6 +1,6 @@
 -- The promises, each by the theorems that prove it.
 use Prim.Native.Nat.{ℕ, _≤_}
-use mathlib.Core.Path.{_≡_, refl, sym, _∙_}
+use mathlib.Core.Path.{_≡_, refl}
 use mathlib.Core.Bool.{Bool, true, false}
 use mathlib.Core.List.{List, _++_}
 use borrow.Author.Tests.{leb-true}
@@ -9,7 +9,7 @@ use lib.ListN.{length, drop}
 use Rattle.theory.specs.Replies.{Reply, value, refusal, _>>=_, question}
 use Rattle.theory.specs.Answers.{noRoom}
 use Rattle.theory.proofs.Answers.{clash}
-use Rattle.theory.proofs.Exact.{judged-determined, impossible-determined, overRange-determined}
+use Rattle.theory.proofs.Exact.{judged-determined, impossible-determined, overRange-determined, estimates-determined, unplaced-determined}
 use Rattle.theory.proofs.Faithful.{possible-starts}
 use Rattle.codec.specs.declared.Wrote.the-variants.{Bytes, Refused}
 use Rattle.codec.specs.Output.{fitting, wroteOf, leftOf, answer, left}
@@ -48,8 +48,8 @@ determined =
       judged = judged-determined;
       impossible = impossible-determined;
       overRange = overRange-determined;
-      estimates = λ net deeds s t one other p l. one .estimates p l ∙ sym (other .estimates p l);
-      unplaced = λ net deeds s t one other i l. one .unplacedNumbers i l ∙ sym (other .unplacedNumbers i l);
+      estimates = λ net deeds s t. estimates-determined;
+      unplaced = λ net deeds s t. unplaced-determined;
     }
 
 pub promises : Promises
@@ -65,6 +65,6 @@ promises =
       meaning = one-meaning;
       round-trips = round-trips;
       longest = longest;
-      refusals-on-bytes = refusals-on-bytes;
-      refusals-on-values = refusals-on-values;
+      refusals-on-bytes = λ d s out number. refusals-on-bytes d s number out;
+      refusals-on-values = λ net o s out number. refusals-on-values net o s number out;
     }

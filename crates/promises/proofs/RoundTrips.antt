@@ -17,12 +17,12 @@ use Rattle.net.specs.Answers.{checkedReply}
 use Rattle.description.specs.Grammar.{description}
 use Rattle.description.specs.Read.{descriptionRead}
 use Rattle.description.specs.Writing.{netBytes, written}
-use Rattle.description.specs.Fine.{Full}
-use Rattle.description.specs.Inverse as Descriptions
+use Rattle.description.specs.Full.{Full}
+use Rattle.description.proofs.Inverse as Descriptions
 use Rattle.states.specs.States.Writing.{Fit}
 use Rattle.states.specs.States.Nets.{saved}
 use Rattle.observer.specs.Bytes.{netIn, described, stateIn}
-use Rattle.values.specs.Values.Laws as Observers
+use Rattle.values.proofs.Observers as Observers
 use Rattle.promises.specs.Promises.{RoundTrips}
 use Rattle.promises.proofs.Bytes.{read-back, read-are, of-described}
 

@@ -29,14 +29,14 @@ use Rattle.net.specs.declared.Checked.the-variants.{Good}
 use Rattle.net.specs.Bounds.{mostPlaces, mostGroups}
 use Rattle.net.specs.View.{groupsOf, netOf}
 use Rattle.net.specs.Check.{netCheck}
-use Rattle.net.specs.Check.Laws.{well-formed, good-net}
+use Rattle.net.proofs.Check.{well-formed, good-net}
 use Rattle.net.specs.Answers.{answerOf}
 use Rattle.net.specs.Observers.{stateOf, observerOf, observedOf, freshObserver}
 use Rattle.states.specs.States.Writing.{Fit}
 use Rattle.states.specs.States.Nets.{saved}
-use Rattle.states.specs.States.Nets.Laws.{fit-next, fit-fresh}
+use Rattle.states.proofs.Nets.{fit-next, fit-fresh}
 use Rattle.values.specs.Values.{bothCheck, restoredObserver, observerOutput, recordedObserver, observerJudged, observerKnown}
-use Rattle.values.specs.Values.Laws.{before, both-good, both-passed, output-is, same-observer, state-observer, state-fits, write-read}
+use Rattle.values.proofs.Observers.{before, both-good, both-passed, output-is, same-observer, state-observer, state-fits, write-read}
 use Rattle.promises.specs.Lists.{bytesOf, onValues, memory}
 use Rattle.promises.specs.Promises.{onValuesTold, ListsOnValues, Leaves, StateOnValues}
 use Rattle.promises.proofs.Told.{values-told}

@@ -1,7 +1,8 @@
 //! The journal programs: events a second of processor time. Each runs in a process of its own, with its input from a file and its
-//! output to a pipe that is read and compared here.
+//! output to a pipe that is read and compared here. The calls on values stand beside them.
 
 use crate::nets::Round;
+use crate::values;
 use reference::number::put_number;
 use std::fs::{self, File};
 use std::io::{Read, Seek, Write};
@@ -17,6 +18,12 @@ const MOST: usize = 400_000;
 
 /// How often each program runs on its input; the least time counts.
 const TURNS: usize = 5;
+
+/// How many events fit the time, where the fewest take so many seconds.
+fn fitting(seconds: f64) -> usize {
+    let events = (SECONDS / seconds * FEWEST as f64) as usize;
+    events.clamp(FEWEST, MOST)
+}
 
 struct Program {
     name: &'static str,
@@ -77,9 +84,7 @@ impl Input {
 
     /// One that the program goes through in due time.
     fn fitting(round: &Round, program: &Program) -> Input {
-        let seconds = program.seconds(&Input::new(round, FEWEST));
-        let events = (SECONDS / seconds * FEWEST as f64) as usize;
-        Input::new(round, events.clamp(FEWEST, MOST))
+        Input::new(round, fitting(program.seconds(&Input::new(round, FEWEST))))
     }
 
     fn rewound(&self) -> File {
@@ -100,24 +105,25 @@ fn measure(programs: &[Program], inputs: &[Input]) -> Vec<f64> {
     least.iter().zip(inputs).map(|(seconds, input)| input.events as f64 / seconds).collect()
 }
 
+/// The table of speeds: the journals, and the calls on values, which read and print nothing.
 pub fn speeds(rounds: &[Round]) {
-    let mut programs = vec![
+    let programs = [
         Program::new("plain", "host/reference/target/release/journal"),
         Program::new("journal", "target/bin/journal"),
-        Program::new("calls on values", "target/bin/value_rounds"),
     ];
-    if !programs[2].path.exists() {
-        println!("target/bin/value_rounds is not there, so the calls on values have no row.\n");
-        programs.pop();
-    }
     println!("| net | program | events | events a second | beside plain |");
     println!("|---|---|--:|--:|--:|");
     for round in rounds {
         let inputs: Vec<Input> = programs.iter().map(|program| Input::fitting(round, program)).collect();
         let speeds = measure(&programs, &inputs);
-        for (i, program) in programs.iter().enumerate() {
-            let (net, beside) = (if i == 0 { round.name } else { "" }, speeds[i] / speeds[0]);
-            println!("| {net} | {} | {} | {:.0} | {beside:.2} |", program.name, inputs[i].events, speeds[i]);
+        let mut rows: Vec<(&str, usize, f64)> =
+            programs.iter().zip(&inputs).zip(&speeds).map(|((program, input), &speed)| (program.name, input.events, speed)).collect();
+        let events = fitting(values::seconds(round, FEWEST));
+        let least = (0..TURNS).map(|_| values::seconds(round, events)).fold(f64::INFINITY, f64::min);
+        rows.push(("calls on values", events, events as f64 / least));
+        for (i, (program, events, speed)) in rows.into_iter().enumerate() {
+            let (net, beside) = (if i == 0 { round.name } else { "" }, speed / speeds[0]);
+            println!("| {net} | {program} | {events} | {speed:.0} | {beside:.2} |");
         }
     }
 }

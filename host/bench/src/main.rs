@@ -7,6 +7,7 @@ mod nets;
 mod plain;
 mod stack;
 mod strong;
+mod values;
 
 use nets::{Case, Numbers};
 use std::hint::black_box;

@@ -18,7 +18,8 @@ pub use Rattle.numbers.specs.Number.{largest, form, numberAt, room, writtenAt, 
 pub use Rattle.numbers.specs.Signed.{stored, signed}
 pub use Rattle.codec.specs.declared.Wrote.{Wrote}
 pub use Rattle.codec.specs.declared.Wrote.the-variants.{Bytes}
-pub use Rattle.codec.specs.Output.{answer, left}
+pub use Rattle.codec.specs.Reader.{passed, passedReply, readReply}
+pub use Rattle.codec.specs.Output.{answer, left, wroteReply, writtenReply}
 pub use Rattle.net.specs.declared.Net.{Net}
 pub use Rattle.net.specs.declared.Observer.{Observer}
 pub use Rattle.net.specs.declared.Checked.{Checked}
@@ -29,14 +30,15 @@ pub use Rattle.net.specs.declared.Answer.the-variants.{Given}
 pub use Rattle.net.specs.Bounds.{mostPlaces, mostGroups}
 pub use Rattle.net.specs.View.{netOf}
 pub use Rattle.net.specs.Check.{netCheck}
-pub use Rattle.net.specs.Answers.{answerOf}
+pub use Rattle.net.specs.Answers.{answerOf, knownOf, checkedReply, answerReply, reportReply}
 pub use Rattle.net.specs.Observers.{stateOf, observedOf, freshObserver}
-pub use Rattle.description.specs.Read.{longestDescription, descriptionRead}
+pub use Rattle.description.specs.Outline.{limitsAt}
+pub use Rattle.description.specs.Read.{longestDescription, descriptionRead, netRead}
 pub use Rattle.description.specs.Writing.{written}
-pub use Rattle.description.specs.Fine.{Full}
+pub use Rattle.description.specs.Full.{Full}
 pub use Rattle.states.specs.States.Writing.{Fit}
 pub use Rattle.states.specs.States.Nets.{longestState, saved}
 pub use Rattle.observer.specs.Bytes.{described, stateIn, freshReply, recordReply, judgeReply, knownReply}
-pub use Rattle.values.specs.Values.{bothCheck, restoredObserver, observerOutput, recordedObserver, observerJudged, observerKnown, observerUnplaced}
+pub use Rattle.values.specs.Values.{bothCheck, restoredObserver, observerOutput, recordedObserver, observerJudged, observerKnown, observerUnplaced, unplacedOf}
 pub use Rattle.host.specs.Numbers.{refusalNumber, wroteNumber, answerNumber}
 pub use Rattle.promises.specs.Lists.{onBytes, host, onValues, memory}

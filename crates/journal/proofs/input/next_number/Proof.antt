@@ -2,9 +2,8 @@
 use mathlib.Core.Path.{sym, _∙_}
 use native.Mathlib.Omega.{arith}
 use borrow.Author.Needs.{needs}
-use denote.Ref.{now}
-use Rattle.numbers.proofs.Number.{number-within}
-use Rattle.journal.proofs.Reading.{number-early, number-late}
+use Rattle.codec.proofs.Reader.{number-none}
+use Rattle.journal.proofs.Telling.{tells-number, tells-none}
 use Rattle.journal.proofs.input.next_number.Statement.{statement}
 use Rattle.journal.proofs.input.next_number.Tie as tie
 
@@ -21,23 +20,18 @@ sub-if1 : tie.Need-sub-if1
 sub-if1 c = search needs
 
 returns : tie.Need-returns
-returns c =
-    let call = c .before .before .before in
-    let start = call .before .before in
-    let found = sym (call .read-number .ensures) ∙ c .before .read .given .1 in
-    λ rest. (number-within _ _ _ _ found .1, number-early (now (start .args .seen)) (start .args .at) rest (start .pre) _ _ found)
+returns c = tells-number _ _ _ _ (sym (c .before .before .before .read-number .ensures) ∙ c .before .read .given .1)
 
 returns-2 : tie.Need-returns-2
 returns-2 c =
     let told = c .before in
-    λ rest. (sym (told .before .before .read-number .ensures) ∙ told .enum-told .given .1, omega (arith, c .if1 .taken))
+    (omega (arith, c .if1 .taken), number-none _ _ (sym (told .before .before .read-number .ensures) ∙ told .enum-told .given .1))
 
 returns-3 : tie.Need-returns-3
 returns-3 c =
     let told = c .before in
     let call = told .before .before in
-    let start = call .before .before in
-    λ rest. number-late (now (start .args .seen)) (start .args .at) rest (start .pre) (omega (arith, c .if1 .left, start .pre)) (sym (call .read-number .ensures) ∙ told .enum-told .given .1)
+    tells-none _ _ (omega (arith, c .if1 .left, call .before .before .pre)) (sym (call .read-number .ensures) ∙ told .enum-told .given .1)
 
 pub next-number-spec : {M : Type 1} → statement M
 next-number-spec =

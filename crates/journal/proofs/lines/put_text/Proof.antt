@@ -1,48 +1,50 @@
--- `journal::lines::put_text` meets its contract. The measure is what is left of the text.
+-- `journal::lines::put_text` meets its contract. The loop's invariant: the bytes passed are walked. The measure is what is left of the text.
 use Prim.Native.Nat.{_-_}
+use mathlib.Core.Bool.{true}
+use mathlib.Core.List.{[], _∷_}
 use native.Mathlib.Omega.{arith}
-use borrow.Author.Needs.{needs}
-use lib.ListN.{length}
+use lib.ListN.{length, getD}
 use denote.Ref.{now}
-use Rattle.journal.proofs.Buffers.{Putting, putting-none, putting-long, putting-more, putting-all}
+use Rattle.codec.proofs.Walk.{walked-length, Walking, walking-none, walking-room, walking-more, walking-all}
+use Rattle.journal.proofs.Putting.{text-joined}
 use Rattle.journal.proofs.lines.put_text.Statement.{statement}
 use Rattle.journal.proofs.lines.put_text.Tie as tie
 
 abbrev Inv-loop : tie.InvT-loop
-Inv-loop out₀ at text i₀ out i = Putting out₀ at text out i
+Inv-loop out₀ at text next₀ i₀ out next i = Walking true out₀ at (length text) (λ j. getD text j 0 ∷ []) i out next
 
 abbrev μ-loop : tie.MeasureT-loop
-μ-loop out₀ at text i₀ out i = length text - i
+μ-loop out₀ at text next₀ i₀ out next i = length text - i
 
 loop-holds : tie.Need-loop-holds Inv-loop μ-loop
-loop-holds c = putting-none (now (c .args .out)) (c .args .at) (now (c .args .text)) (c .pre)
+loop-holds c =
+    let start = c .before .before in
+    walking-none (rw (text-joined (now (start .args .text))) (start .pre))
 
-shared-slice-read-out : tie.Need-shared-slice-read-out Inv-loop μ-loop
-shared-slice-read-out c = search needs
+shared-slice-read-put-byte : tie.Need-shared-slice-read-put-byte Inv-loop μ-loop
+shared-slice-read-put-byte c = omega arith
 
-add-out : tie.Need-add-out Inv-loop μ-loop
-add-out c = search needs
-
-slice-write-out : tie.Need-slice-write-out Inv-loop μ-loop
-slice-write-out c = omega (arith, putting-long (c .before .before .loop .inv))
+put-byte-requires : tie.Need-put-byte-requires Inv-loop μ-loop
+put-byte-requires c κs = walking-room (c .before .before .before .loop .inv) (omega arith)
 
 add-i : tie.Need-add-i Inv-loop μ-loop
-add-i c = search needs
+add-i c = omega arith
 
 loop-less : tie.Need-loop-less Inv-loop μ-loop
-loop-less c = search needs
+loop-less c = omega arith
 
 loop-again : tie.Need-loop-again Inv-loop μ-loop
-loop-again c = putting-more (c .before .before .loop .inv) (omega arith)
-
-add-result : tie.Need-add-result Inv-loop μ-loop
-add-result c = search needs
-
-same-length : tie.Need-same-length Inv-loop μ-loop
-same-length c = putting-long (c .before .loop .inv)
+loop-again c =
+    let put = c .before .before in
+    walking-more (put .before .before .before .before .loop .inv) (omega arith) (put .put-byte .ensures)
 
 returns : tie.Need-returns Inv-loop μ-loop
-returns c = (omega (arith, c .before .loop .inv .within), putting-all (c .before .loop .inv) (omega arith))
+returns c =
+    let text = now (c .before .before .before .before .args .text) in
+    rw (text-joined text) at (walking-all (c .before .loop .inv) (omega arith))
+
+same-length : tie.Need-same-length Inv-loop μ-loop
+same-length c = walked-length (returns c)
 
 pub put-text-spec : {M : Type 1} → statement M
 put-text-spec =
@@ -51,12 +53,10 @@ put-text-spec =
     Inv-loop
     μ-loop
     loop-holds
-    shared-slice-read-out
-    add-out
-    slice-write-out
+    shared-slice-read-put-byte
+    put-byte-requires
     add-i
     loop-less
     loop-again
-    add-result
     same-length
     returns)

@@ -70,7 +70,8 @@ impl Program {
                 input.send(piece)?;
                 output.read_line(&mut lines)?;
             }
-            send(&input, &ENDS)?;
+            // Sending fails where the program has ended after the first of these.
+            send(&input, &ENDS).ok();
             child.wait_with_output()
         };
         printed(run()).map(|rest| lines + &rest)

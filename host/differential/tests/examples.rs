@@ -1,0 +1,187 @@
+//! The examples of docs/REFERENCE.md, whose last section says how they are written: each call is made through the library and by
+//! the reference, each journal printed by the program and by the reference. What host/test_c/line.c prints is read as calls from
+//! fresh on the net of the first example that has one.
+
+use reference::journal::journal;
+use reference::number::{put_number, Bytes};
+use reference::{read_description, read_state, write_state};
+use seeded::hex;
+use std::collections::BTreeSet;
+use std::fs;
+use std::io::Write;
+use std::process::{Command, Stdio};
+use yarrowbeam::{Refusal, LARGEST_STATE};
+
+const TOP: &str = concat!(env!("CARGO_MANIFEST_DIR"), "/../..");
+
+/// The smallest net, whose only event has the number 1.
+const SMALLEST: [u8; 8] = [1, 1, 1, 0, 1, 0, 1, 0];
+
+fn text(file: &str) -> String {
+    fs::read_to_string(format!("{TOP}/{file}")).unwrap_or_else(|error| panic!("{file}: {error}"))
+}
+
+/// The bytes, or nothing where some word is not a byte.
+fn bytes(words: &str) -> Option<Vec<u8>> {
+    words.split_whitespace().map(|word| (word.len() == 2).then(|| u8::from_str_radix(word, 16).ok()).flatten()).collect()
+}
+
+fn number(word: &str) -> u32 {
+    word.parse().unwrap_or_else(|_| panic!("no number: {word}"))
+}
+
+// ---- the calls
+
+/// What a call asks: its words before the arrow.
+type Words<'a> = [&'a str];
+
+fn room(words: &Words) -> usize {
+    words.iter().position(|word| *word == "into").map_or(LARGEST_STATE, |at| number(words[at + 1]) as usize)
+}
+
+fn by_library(words: &Words, d: &[u8], s: &[u8]) -> Result<String, u32> {
+    let mut out = [0xA5; LARGEST_STATE];
+    let lent = &mut out[..room(words)];
+    let answer = match words {
+        ["fresh", ..] => yarrowbeam::fresh(d, lent).map(|length| hex(&lent[..length])),
+        ["record", event, ..] => yarrowbeam::record(d, s, number(event), lent).map(|length| hex(&lent[..length])),
+        ["judge", event] => yarrowbeam::judge(d, s, number(event)).map(|verdict| match verdict {
+            yarrowbeam::Verdict::Allow => "allow".to_string(),
+            yarrowbeam::Verdict::Hold(limit) => format!("hold {limit}"),
+        }),
+        ["known"] => yarrowbeam::known(d, s).map(|known| if known { "yes" } else { "no" }.to_string()),
+        _ => panic!("no call: {words:?}"),
+    };
+    answer.map_err(Refusal::number)
+}
+
+fn by_reference(words: &Words, d: &[u8], s: &[u8]) -> Result<String, u32> {
+    let written = |state| {
+        let bytes = write_state(&state);
+        if bytes.len() <= room(words) { Ok(hex(&bytes)) } else { Err(13) }
+    };
+    let net = read_description(d)?;
+    if words[0] == "fresh" {
+        return written(reference::fresh(&net));
+    }
+    let state = read_state(&net, s)?;
+    match words {
+        ["record", event, ..] => written(reference::record(&net, &state, number(event))?),
+        ["judge", event] => Ok(match reference::judge(&net, &state, number(event))? {
+            reference::Verdict::Allow => "allow".to_string(),
+            reference::Verdict::Hold(limit) => format!("hold {limit}"),
+        }),
+        _ => Ok(if reference::known(&net, &state) { "yes" } else { "no" }.to_string()),
+    }
+}
+
+fn said(answer: Result<String, u32>) -> String {
+    answer.unwrap_or_else(|refusal| format!("refused {refusal}"))
+}
+
+// ---- the journal
+
+/// What the program prints for a description and the bytes after it, which the reference must print too.
+fn printed(d: &[u8], events: &[u8]) -> String {
+    let mut input = Vec::new();
+    put_number(&mut input, d.len() as u32);
+    input.extend_from_slice(d);
+    input.extend_from_slice(events);
+    let mut program = Command::new(format!("{TOP}/target/bin/journal"))
+        .stdin(Stdio::piped())
+        .stdout(Stdio::piped())
+        .spawn()
+        .expect("the program, which `rt check journal` makes");
+    program.stdin.take().expect("a pipe").write_all(&input).expect("its input is read");
+    let lines = String::from_utf8(program.wait_with_output().expect("its output").stdout).expect("text");
+    assert_eq!(lines, journal(&input), "the journal of {}", hex(&input));
+    lines
+}
+
+/// A stored number, as the journal reads it where event numbers stand: one that no event has is refused by its line.
+fn stored(form: &[u8]) -> String {
+    let lines = printed(&SMALLEST, form);
+    lines.strip_suffix(" refused 10 0\n").unwrap_or(lines.trim_end()).to_string()
+}
+
+fn signed(form: &[u8]) -> String {
+    said(Bytes::new(form).signed().map(|n| n.to_string()))
+}
+
+// ---- the examples
+
+/// An example as far as it is read: the description, the state that the last call left, and the refusals that were met.
+#[derive(Default)]
+struct Example {
+    description: Vec<u8>,
+    state: Vec<u8>,
+    refusals: BTreeSet<String>,
+}
+
+impl Example {
+    /// A call, whose answer is shown.
+    fn call(&mut self, asked: &str, shown: &str) {
+        let words: Vec<&str> = asked.split_whitespace().collect();
+        for (name, answer) in [("the library", by_library as fn(&Words, &[u8], &[u8]) -> _), ("the reference", by_reference)] {
+            assert_eq!(said(answer(&words, &self.description, &self.state)), shown, "{asked} by {name}");
+        }
+        if let (Some(state), "fresh" | "record") = (bytes(shown), words[0]) {
+            self.state = state;
+        }
+        if shown.starts_with("refused") {
+            self.refusals.insert(shown.to_string());
+        }
+    }
+
+    /// A description that stands in one line, and what fresh answers; all calls refuse it alike.
+    fn whole(&mut self, description: Vec<u8>, shown: &str) {
+        self.description = description;
+        let others: &[&str] = if shown.starts_with("refused") { &["record 1", "judge 1", "known"] } else { &[] };
+        for call in [&["fresh"], others].concat() {
+            self.call(call, shown);
+        }
+    }
+
+    fn line(&mut self, line: &str) {
+        match line.split_once("->").map(|(asked, shown)| (asked.trim(), shown.trim())) {
+            Some((asked, shown)) => match (asked.split_once(' '), bytes(asked)) {
+                (_, Some(description)) => self.whole(description, shown),
+                (Some(("number", form)), _) => assert_eq!(stored(&bytes(form).expect("bytes")), shown, "{line}"),
+                (Some(("signed", form)), _) => assert_eq!(signed(&bytes(form).expect("bytes")), shown, "{line}"),
+                _ => self.call(asked, shown),
+            },
+            None => match line.strip_prefix("state ") {
+                Some(state) => self.state = bytes(state).expect("bytes"),
+                None => self.description.extend(bytes(line).unwrap_or_else(|| panic!("no bytes: {line}"))),
+            },
+        }
+    }
+
+    /// The lines of an example, each without its remark; those after the line of a journal are what it prints.
+    fn read(lines: &str) -> Example {
+        let mut example = Example::default();
+        let mut lines = lines.lines().map(|line| line.trim().split("  ").next().unwrap_or(""));
+        while let Some(line) = lines.next() {
+            if let Some(events) = line.strip_prefix("journal ") {
+                let shown: String = lines.by_ref().map(|line| format!("{line}\n")).collect();
+                assert_eq!(printed(&example.description, &bytes(events).expect("bytes")), shown);
+            } else {
+                example.line(line);
+            }
+        }
+        example
+    }
+}
+
+#[test]
+fn examples() {
+    let page = text("docs/REFERENCE.md");
+    let blocks = page.split("```example\n").skip(1).map(|rest| rest.split("```").next().unwrap_or(rest));
+    let examples: Vec<Example> = blocks.map(Example::read).collect();
+    let met: BTreeSet<&String> = examples.iter().flat_map(|example| &example.refusals).collect();
+    let all: Vec<String> = (1..=13).map(|refusal| format!("refused {refusal}")).collect();
+    assert_eq!(met, all.iter().collect(), "each refusal has an example");
+    let mut line = examples.into_iter().find(|example| !example.description.is_empty()).expect("an example of a net");
+    line.state = bytes(&said(by_reference(&["fresh"], &line.description, &[]))).expect("a state");
+    text("host/test_c/expected").lines().for_each(|call| line.line(call));
+}
