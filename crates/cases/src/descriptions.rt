@@ -23,7 +23,7 @@ fn describe_net(net: Net, d: &[u8]) {
     put(b" net");
     size(net.places);
     size(net.events);
-    size(net.groups);
+    size(net.groups.number);
     size(net.limits);
     back(net, d);
 }
@@ -32,7 +32,7 @@ fn size(number: usize) {
     numbered(b" ", number);
 }
 
-// Says so where the net is written as the description.
+// Says so if the net is written as the description.
 fn back(net: Net, d: &[u8]) {
     let mut out = io::large_buffer();
     let Wrote::Bytes(count) = writing::write_description(net, &mut out) else {
@@ -43,7 +43,7 @@ fn back(net: Net, d: &[u8]) {
     }
 }
 
-// For each value of the byte at a position 0 where the description is read with it, else the
+// For each value of the byte at a position 0 if the description is read with it, else the
 // refusal.
 pub fn changed(d: &[u8], at: usize) {
     // more than a description has of which a case changes a byte

@@ -44,7 +44,7 @@ fn cases(input: &[u8]) {
 }
 
 // A label, a description and a state, each after its length, then the call, the event and the room;
-// the position after them, or the input's end where they are cut short.
+// the position after them, or the input's end if they are cut short.
 fn one_case(input: &[u8], at: usize) -> usize {
     let description = end_of(input, at);
     let state = end_of(input, description);
@@ -64,7 +64,7 @@ fn one_case(input: &[u8], at: usize) -> usize {
     after(input, at_room)
 }
 
-// Where a byte is changed, the event is its position.
+// If a byte is changed, the event is its position.
 fn answer<'a>(d: &'a [u8], s: &'a [u8], call: u32, event: u32, room: usize) {
     match call {
         DESCRIBE => descriptions::describe(d),

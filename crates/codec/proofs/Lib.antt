@@ -1,6 +1,7 @@
 -- The laws of readers and of what is written.
 pub mod Reader
 pub mod Inverse
+pub mod Places
 pub mod Joined
 pub mod Walk
 pub mod Measured

@@ -5,14 +5,16 @@ use mathlib.Core.Bool.{Bool, true, false, cond, _&&_, false≢true}
 use mathlib.Core.List.{List, [], _∷_, _++_, append-assoc}
 use native.Mathlib.Omega.{arith}
 use borrow.Author.Tests.{leb-true}
-use lib.Dec.{leb}
+use lib.Dec.{leb, ltb}
 use lib.ListN.{length, take, drop, take-append-drop, length-append}
 use lib.Seq.{take-at, take-append-le}
 use Rattle.numbers.specs.Number.{largest, longestNumber, form, Found, found, nothing}
 use Rattle.numbers.specs.Number as Stored
 use Rattle.numbers.proofs.Number.{form-length, form-length-bounds, read-write, write-read}
 use Rattle.codec.specs.Reader.{Result, ok, no, Reader, onward, _>>=_, done, refuse, ask, fromFound, number, end, many}
+use Rattle.codec.specs.Places.{risingPlace}
 use Rattle.codec.proofs.Inverse.{no-ok, bind-then, number-back, number-forth}
+use Rattle.codec.proofs.Places.{rising-back}
 
 -- what a reader finds where more bytes follow
 abbrev pub extended : {A : Type 0} → List ℕ → Result A → Result A
@@ -169,3 +171,33 @@ module _ {A : Type 0} {spent most : ℕ} {spare : A → ℕ} {next : ℕ → Rea
       go : (i : ℕ) (t : Bool) → (t && leb i above) ≡ true → i ≤ above
       go i true e = leb-true i above e
       go i false e = absurd (false≢true e)
+
+-- ---- places
+
+rising-extended : (places last : ℕ) (bytes rest : List ℕ) → longestNumber ≤ length bytes
+    → risingPlace places last (bytes ++ rest) ≡ extended rest (risingPlace places last bytes)
+unfolding risingPlace
+rising-extended places last bytes rest enough = rw (number-extended bytes rest enough) (go (number bytes))
+  where
+    questions : ℕ → Bool → Bool → Reader ℕ
+    questions p s t = ask s 4 >>= λ u. ask t 5 >>= λ u. done p
+
+    asked : (p : ℕ) (left : List ℕ) (s t : Bool) → questions p s t (left ++ rest) ≡ extended rest (questions p s t left)
+    asked p left true true = refl
+    asked p left true false = refl
+    asked p left false t = refl
+
+    go : (r : Result ℕ)
+        → onward (extended rest r) (λ p. questions p (ltb 0 p && leb p places) (ltb last p))
+        ≡ extended rest (onward r (λ p. questions p (ltb 0 p && leb p places) (ltb last p)))
+    go (ok p left) = asked p left (ltb 0 p && leb p places) (ltb last p)
+    go (no n) = refl
+
+-- a place, which has one byte, and a reader after it
+pub then-place : {A : Type 0} {spent most : ℕ} {spare : A → ℕ} {next : ℕ → Reader A} (places last : ℕ) → places < 128 → spent ≤ most
+    → ((p : ℕ) → p ≤ places → Spends (spent + 1) most spare (next p)) → Spends spent most spare (risingPlace places last >>= next)
+then-place places last few fits after =
+    then-spends (λ bytes rest long. rising-extended places last bytes rest (omega arith)) λ p bytes left e.
+    let read = rising-back places last bytes e in
+    more-spends (after p (read .1))
+    (omega (arith, simp length-append at (ap length (read .3)), form-short 1 places p (omega arith) (omega arith) (read .2) (read .1)))

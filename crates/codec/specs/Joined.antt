@@ -13,6 +13,6 @@ joined (suc n) f = joined n f ++ f n
 abbrev pub listed : {A : Type 0} → ℕ → (ℕ → A) → List A
 listed n f = joined n (λ i. f i ∷ [])
 
--- so many numbers, of which the first n are those of f and the others 0
+-- the first n numbers of f, and zeros up to the size
 abbrev pub firstOf : ℕ → ℕ → (ℕ → ℕ) → List ℕ
 firstOf size n f = listed size (λ i. cond (ltb i n) (f i) 0)

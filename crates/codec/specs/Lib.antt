@@ -1,4 +1,5 @@
 pub mod Reader
 pub mod Joined
 pub mod Output
+pub mod Places
 pub mod Walk

@@ -55,7 +55,7 @@ unfoldable pub end : Reader Unit
 end [] = ok tt []
 end (byte ∷ bytes) = no 8
 
--- so many of the same
+-- the same reader, n times
 unfoldable pub many : {A : Type 0} → ℕ → Reader A → Reader (List A)
 many zero reader = done []
 many (suc n) reader = do
@@ -90,7 +90,7 @@ abbrev pub readReply : Read → Reply (ℕ × ℕ)
 readReply (Number n at) = value (n, at)
 readReply Nothing = refusal 1
 
--- what it found, or another value where it refused
+-- what it found, or another value if it refused
 abbrev pub foundOr : {A : Type 0} → A → Result A → A
 foundOr other (ok a left) = a
 foundOr other (no n) = other

@@ -1,5 +1,12 @@
 // What readers and writers of bytes answer, and the refusals by name (01, "Questions put in turn").
+mod put;
 pub mod refusals;
+mod rising;
+
+pub use put::put_number;
+pub use rising::PlaceRead;
+pub use rising::read_place;
+ghost use mathlib.Core.Path.{_≡_};
 
 // How far a reader came that keeps what it read elsewhere: the position after it, or its refusal.
 pub enum Passed {
@@ -11,4 +18,11 @@ pub enum Passed {
 pub enum Wrote {
     Bytes(usize),
     Refused(u32),
+}
+
+// A byte as a number that can stand for a position.
+pub fn wide(byte: u8) -> usize
+    ensures { λ r. ⌜ r ≡ byte ⌝ }
+{
+    byte as usize
 }

@@ -57,7 +57,7 @@ pub fn header_numbers(description: &[u8]) -> HeaderNumbers
     }
 }
 
-// The position after what was read at a position; the same one where nothing was.
+// The position after what was read at a position; the same one if nothing was.
 fn position_after(read: Read, at: usize) -> usize
     ensures { λ r. ⌜ r ≡ positionAfter read at ⌝ }
 {

@@ -11,7 +11,7 @@ ghost use Rattle.net.specs.Answers.{answerOf, knownOf};
 ghost use Rattle.observer.specs.Bytes.{freshReply, recordReply, knownReply, judgeReply};
 ghost use Rattle.host.specs.Numbers.{Countable, refusalNumber, wroteNumber, answerNumber, knownNumber};
 
-// Writes the fresh state of the net that the bytes describe, where it fits the output: the number of
+// Writes the fresh state of the net that the bytes describe, if it fits the output: the number of
 // bytes. A refusal writes nothing.
 #[no_mangle]
 pub extern "C" fn fresh(d: &[u8], out: &mut [u8]) -> i64
@@ -23,7 +23,7 @@ pub extern "C" fn fresh(d: &[u8], out: &mut [u8]) -> i64
 }
 
 // Writes the state after an event of the net that the first bytes describe, at the state that the
-// others are, where it fits the output: the number of bytes. A refusal writes nothing.
+// others are, if it fits the output: the number of bytes. A refusal writes nothing.
 #[no_mangle]
 pub extern "C" fn record<'a>(d: &'a [u8], s: &'a [u8], event: u32, out: &mut [u8]) -> i64
     ensures { λ r. ⌜ r ≡ wroteNumber (answer (length (now (out .entry))) (recordReply (now (d .entry)) (now (s .entry)) event)) ⌝ }
@@ -33,7 +33,7 @@ pub extern "C" fn record<'a>(d: &'a [u8], s: &'a [u8], event: u32, out: &mut [u8
     wrote_number(wrote)
 }
 
-// Judges an event: 0 where it is allowed, the number of the limit that holds it where it is held.
+// Judges an event: 0 if it is allowed, the number of the limit that holds it if it is held.
 #[no_mangle]
 pub extern "C" fn judge<'a>(d: &'a [u8], s: &'a [u8], event: u32) -> i64
     ensures { λ r. ⌜ r ≡ answerNumber (answerOf (judgeReply (now (d .entry)) (now (s .entry)) event)) ⌝ }

@@ -1,5 +1,5 @@
 -- A pass over the events that are seen: what is put out and what is left to print.
-use Prim.Native.Nat.{ℕ, _+_, _-_, _≤_, _<_}
+use Prim.Native.Nat.{ℕ, _+_, _-_, _≤_}
 use mathlib.Core.Path.{_≡_, refl, sym, ap, _∙_}
 use mathlib.Core.Bool.{true}
 use mathlib.Core.List.{List, [], _∷_, _++_, append-assoc, append-nil}
@@ -16,7 +16,7 @@ use Rattle.steps.specs.Totals.{unplacedNumbers}
 use Rattle.journal.specs.declared.input.Next.the-variants.{Number, IllFormed}
 use Rattle.journal.specs.declared.events.Stop.the-variants.{Full, Short, Ended}
 use Rattle.journal.specs.Lines.{lineBytes, refusedBytes, longestLine}
-use Rattle.journal.specs.Printed.{line, stateAfter, lines}
+use Rattle.journal.specs.Printed.{lines}
 use Rattle.journal.specs.Passing.{Tells, stateIn, Running, Steps, Passes}
 use Rattle.journal.proofs.Putting.{refused-length, line-length, walked-within, walked-take}
 use Rattle.journal.proofs.Runs.{lines-none, lines-event, lines-refused, lines-alike}
@@ -40,15 +40,18 @@ module _ {net : Net} {seen : List ℕ} {from : ℕ} {estimates₀ remainders₀ 
     (going : Going net seen from estimates₀ remainders₀ out₀ estimates remainders out at used) where
   -- an event more
   pub going-more : used + longestLine ≤ length out → {event next : ℕ} → Tells seen at (Number event next) → {after left : List ℕ} {answer : Answer}
-      → Steps net event estimates remainders after left answer → {numbers : List ℕ} → numbers ≡ unplacedNumbers (net .groups) (net .around) left
+      → Steps net event estimates remainders after left answer → {numbers : List ℕ} → numbers ≡ unplacedNumbers (net .groups .number) (net .groups .around) left
       → {put : List ℕ} {end : ℕ}
-      → Walked true out used (lineBytes event answer (net .places) (λ p. getD after p 0) (net .groups) (λ i. getD numbers i 0)) put end
+      → Walked true out used (lineBytes event answer (net .places) (λ p. getD after p 0) (net .groups .number) (λ i. getD numbers i 0)) put end
       → Going net seen from estimates₀ remainders₀ out₀ after left put next end
   going-more room {event} {next} tells {after} {left} {answer} steps {numbers} are {put} {end} walked =
-      let bytes = lineBytes event answer (net .places) (λ p. getD after p 0) (net .groups) (λ i. getD numbers i 0) in
+      let bytes = lineBytes event answer (net .places) (λ p. getD after p 0) (net .groups .number) (λ i. getD numbers i 0) in
       let fine = formed (steps .running) in
       let inside : used + length bytes ≤ length out =
-      omega (arith, line-length event answer (net .places) (λ p. getD after p 0) (net .groups) (λ i. getD numbers i 0) (fine .sized .places) (fine .sized .groups)) in
+      omega (
+        arith,
+        line-length event answer (net .places) (λ p. getD after p 0) (net .groups .number) (λ i. getD numbers i 0) (fine .sized .places) (fine .sized .groups),
+      ) in
       let state = stateIn estimates remainders in
       record {
         within = tells .1;

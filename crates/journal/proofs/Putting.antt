@@ -7,7 +7,7 @@ use native.Mathlib.Omega.{arith}
 use borrow.Author.Tests.{lt-ltb, le-ltb}
 use lib.Dec.{ltb}
 use lib.ListN.{length, getD, set, take, drop, length-append}
-use lib.Seq.{sets, sets-eq, take-at, length-take-le}
+use lib.Seq.{sets-eq, take-at, length-take-le}
 use Rattle.codec.specs.Joined.{joined}
 use Rattle.codec.specs.Walk.{wrote, Room, Walked}
 use Rattle.codec.proofs.Joined.{listed-getD}
@@ -15,7 +15,7 @@ use Rattle.codec.proofs.Walk.{room-first, room-next, walked-length, walked-both
 use Rattle.net.specs.declared.Verdict.the-variants.{Allow, Hold}
 use Rattle.net.specs.declared.Answer.{Answer}
 use Rattle.net.specs.declared.Answer.the-variants.{Given, Refused}
-use Rattle.journal.specs.Lines.{digits, decimal, space, newline, refusedWord, numbered, answerBytes, spaced, lineBytes, refusedBytes, longestLine}
+use Rattle.journal.specs.Lines.{digits, decimal, space, answerBytes, spaced, lineBytes, refusedBytes, longestLine}
 
 -- one byte
 pub byte-walked : (out : List ℕ) (at byte : ℕ) → Walked true out at (byte ∷ []) (set out at byte) (at + 1)

@@ -1,17 +1,16 @@
 -- Runs: the lines of events one after the other.
 use Prim.Native.Nat.{ℕ, zero, suc, _+_, _≤_, _<_}
-use mathlib.Core.Path.{_≡_, refl, sym, ap, _∙_}
+use mathlib.Core.Path.{_≡_, refl, ap}
 use mathlib.Core.List.{List, [], _∷_, _++_}
 use native.Mathlib.Omega.{arith}
 use lib.ListN.{length, length-append}
 use Rattle.theory.specs.Nets.{Net}
-use Rattle.theory.specs.Recording.{State, Alike, next, unplaced}
+use Rattle.theory.specs.Recording.{State, Alike, next}
 use Rattle.theory.specs.Replies.{Reply, value, refusal, _>>=_}
-use Rattle.theory.specs.Answers.{ask, recorded, judged}
+use Rattle.theory.specs.Answers.{ask, recorded}
 use Rattle.theory.proofs.Alike.{next-alike, unplaced-alike, ask-alike, judge-alike}
 use Rattle.numbers.proofs.Number.{form-length-bounds}
 use Rattle.codec.specs.Reader.{Result, ok, no, number}
-use Rattle.codec.specs.Joined.{joined}
 use Rattle.codec.proofs.Inverse.{number-back}
 use Rattle.codec.proofs.Joined.{joined-cong}
 use Rattle.net.specs.declared.Answer.{Answer}

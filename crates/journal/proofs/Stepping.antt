@@ -25,7 +25,7 @@ use Rattle.net.specs.Observers.{observerOf, observedOf, freshObserver}
 use Rattle.net.proofs.Check.{WellFormed, well-formed}
 use Rattle.net.specs.Answers.{answerOf}
 use Rattle.net.proofs.Copying.{event-row-at}
-use Rattle.steps.specs.Steps.{stepCheck, estimatesAfter, remaindersAfter}
+use Rattle.steps.specs.Steps.{estimatesAfter, remaindersAfter, StepLeaves}
 use Rattle.steps.proofs.Stepped.{Stepped, step-leaves}
 use Rattle.steps.specs.Totals.{unplacedNumbers}
 use Rattle.steps.proofs.Unplaced.{Totals, unplaced-are}
@@ -42,7 +42,7 @@ same-state net s = record { estimates = λ p l. refl; lows = λ i l. refl; highs
 
 -- ---- the start
 
-module _ (net : Net) (good : netCheck net ≡ Good) {observed : Observed} (e : observed ≡ observedOf (freshObserver net)) where
+module _ (net : Net) (good : netCheck net ≡ value tt) {observed : Observed} (e : observed ≡ observedOf (freshObserver net)) where
   fine : WellFormed net
   fine = well-formed net good
 
@@ -54,9 +54,9 @@ module _ (net : Net) (good : netCheck net ≡ Good) {observed : Observed} (e : o
   unfolding observerOf
   estimates-are p l = rw observer-is (first-at mostPlaces (net .places) (fresh (netOf net) .estimate) (fine .sized .places) p l)
 
-  remainders-are : (i : ℕ) → i < net .groups → getD (observed .observer .remainders) i 0 ≡ fresh (netOf net) .high (suc i)
+  remainders-are : (i : ℕ) → i < net .groups .number → getD (observed .observer .remainders) i 0 ≡ fresh (netOf net) .high (suc i)
   unfolding observerOf
-  remainders-are i l = rw observer-is (first-at mostGroups (net .groups) (λ j. fresh (netOf net) .high (suc j)) (fine .sized .groups) i l)
+  remainders-are i l = rw observer-is (first-at mostGroups (net .groups .number) (λ j. fresh (netOf net) .high (suc j)) (fine .sized .groups) i l)
 
   pub fresh-running : length (observed .observer .estimates) ≡ mostPlaces → length (observed .observer .remainders) ≡ mostGroups
       → Running net (observed .observer .estimates) (observed .observer .remainders)
@@ -68,7 +68,7 @@ module _ (net : Net) (good : netCheck net ≡ Good) {observed : Observed} (e : o
         wide = wide;
         small = λ i l.
             let one : suc i - 1 ≡ i = omega arith in
-            let count : getD (net .counts) (suc i - 1) 0 ≤ bound = rw one (fine .valued .counts .small i (omega (arith, fine .sized .groups))) in
+            let count : getD (net .groups .counts) (suc i - 1) 0 ≤ bound = rw one (fine .valued .counts .small i (omega (arith, fine .sized .groups))) in
             omega (arith, remainders-are i l, count);
       }
 
@@ -89,7 +89,7 @@ module _ {net : Net} {estimates remainders : List ℕ} (run : Running net estima
   abbrev s : State
   s = stateIn estimates remainders
 
-  arrays : Arrays (net .places) (net .groups) (net .homes) (net .around) (net .counts) (rulesOf net) s estimates remainders
+  arrays : Arrays (net .places) (net .groups) (rulesOf net) s estimates remainders
   arrays = record { estimate = λ p l. refl; remainder = λ i l. let one : suc i - 1 ≡ i = omega arith in rw one }
 
   -- an event that is refused leaves all as it was
@@ -108,38 +108,38 @@ module _ {net : Net} {estimates remainders : List ℕ} (run : Running net estima
 
   module _ (event e : ℕ) (is : event ≡ suc e) (few : e < net .events) {takes gives : List ℕ} (taken : takes ≡ eventRow (net .takes) e)
       (given : gives ≡ eventRow (net .gives) e) where
-    rows : Rows (net .places) (net .groups) (net .homes) (net .around) (net .counts) (rulesOf net) e takes gives
+    rows : Rows (net .places) (net .groups) (rulesOf net) e takes gives
     rows = record { take = λ p l. rw taken (row (net .takes) p l); give = λ p l. rw given (row (net .gives) p l) }
       where
         row : (table : List ℕ) (p : ℕ) → p < net .places → getD (eventRow table e) p 0 ≡ getD table (at64 e p) 0
         row table p l = event-row-at table e p (omega (arith, formed .sized .events)) (omega (arith, formed .sized .places))
 
-    module _ {c : Checked} (checked : c ≡ stepCheck (net .places) (net .groups) (net .homes) takes gives estimates remainders) {after left : List ℕ}
-        (moved : after ≡ estimatesAfter (net .places) (net .groups) (net .homes) takes gives estimates remainders)
-        (lessened : left ≡ remaindersAfter (net .places) (net .groups) (net .homes) takes gives estimates remainders) where
+    module _ {c : Checked} {after left : List ℕ}
+        (step : StepLeaves (net .places) (net .groups .number) (net .groups .homes) takes gives estimates remainders c after left) where
       asks : ask (netOf net) s event ≡ askedOf e c
       asks =
           ap (ask (netOf net) s) is
-          ∙ step-asks (net .places) (net .groups) (net .homes) (net .around) (net .counts) (rulesOf net) arrays rows few (formed .sized .places) (formed .sized .groups)
-          ∙ ap (askedOf e) (sym checked)
+          ∙ step-asks (net .places) (net .groups) (rulesOf net) arrays rows few (formed .sized .places) (formed .sized .groups)
+          ∙ ap (askedOf e) (sym (step .0))
 
       -- questions 11 and 12
       pub step-refused : (n : ℕ) → c ≡ Refused n → Steps net event estimates remainders after left (Answer.Refused n)
       unfolding estimatesAfter remaindersAfter
       step-refused n refused =
-          rw (moved, lessened, ← checked, refused) (refused-steps event n (asks ∙ ap (askedOf e) refused))
+          rw (step .1, step .2, ← step .0, refused) (refused-steps event n (asks ∙ ap (askedOf e) refused))
 
       -- the event is recorded, and the limits give the verdict
       pub step-recorded : c ≡ Good → {answer : Answer}
-          → answer ≡ answerOf (tablesWeighed (net .places) (net .groups) (net .limits) (net .homes) takes gives after left (net .ceilings) (net .weights))
+          → answer
+          ≡ answerOf (tablesWeighed (net .places) (net .groups .number) (net .limits) (net .groups .homes) takes gives after left (net .ceilings) (net .weights))
           → Steps net event estimates remainders after left answer
       unfolding recorded judged next
       step-recorded good weighed =
-          let stepped : Stepped (net .places) (net .groups) (net .homes) takes gives estimates remainders after left =
-          rw (moved, lessened)
-          (step-leaves (net .places) (net .groups) (net .homes) takes gives estimates remainders (sym checked ∙ good)
+          let stepped : Stepped (net .places) (net .groups .number) (net .groups .homes) takes gives estimates remainders after left =
+          rw (step .1, step .2)
+          (step-leaves (net .places) (net .groups .number) (net .groups .homes) takes gives estimates remainders (sym (step .0) ∙ good)
           (omega (arith, run .long, formed .sized .places)) (omega (arith, run .wide, formed .sized .groups))) in
-          let arrays-after = step-arrays (net .places) (net .groups) (net .homes) (net .around) (net .counts) (rulesOf net) arrays rows stepped in
+          let arrays-after = step-arrays (net .places) (net .groups) (rulesOf net) arrays rows stepped in
           let met : ask (netOf net) s event ≡ value e = asks ∙ ap (askedOf e) good in
           record {
             judges = weighed ∙ rw met
@@ -156,7 +156,7 @@ module _ {net : Net} {estimates remainders : List ℕ} (run : Running net estima
           at : (i : ℕ) → getD left (suc i - 1) 0 ≡ getD left i 0
           at i = ap (λ (k : ℕ). getD left k 0) (let one : suc i - 1 ≡ i = omega arith in one)
 
-          in-arrays : Arrays (net .places) (net .groups) (net .homes) (net .around) (net .counts) (rulesOf net) (next (netOf net) s e) after left
+          in-arrays : Arrays (net .places) (net .groups) (rulesOf net) (next (netOf net) s e) after left
               → Alike (netOf net) (stateIn after left) (next (netOf net) s e)
           in-arrays a =
               record {
@@ -167,20 +167,22 @@ module _ {net : Net} {estimates remainders : List ℕ} (run : Running net estima
 
 -- the line of an event that is judged and recorded
 pub line-is : {net : Net} {event : ℕ} {estimates remainders after left : List ℕ} {answer : Answer} → Steps net event estimates remainders after left answer
-    → {numbers : List ℕ} → numbers ≡ unplacedNumbers (net .groups) (net .around) left
-    → lineBytes event answer (net .places) (λ p. getD after p 0) (net .groups) (λ i. getD numbers i 0) ≡ line (netOf net) (stateIn estimates remainders) event
+    → {numbers : List ℕ} → numbers ≡ unplacedNumbers (net .groups .number) (net .groups .around) left
+    → lineBytes event answer (net .places) (λ p. getD after p 0) (net .groups .number) (λ i. getD numbers i 0)
+    ≡ line (netOf net) (stateIn estimates remainders) event
 unfolding unplaced
 line-is {net} {event} {estimates} {remainders} {after} {left} steps {numbers} are =
-    line-same event (net .places) (net .groups) (steps .judges) (steps .leaves .estimates)
+    line-same event (net .places) (net .groups .number) (steps .judges) (steps .leaves .estimates)
     (λ i l. ap (λ (n : List ℕ). getD n i 0) are ∙ number i l ∙ unplaced-alike (netOf net) (steps .leaves) (suc i))
   where
     fine : WellFormed net
     fine = formed (steps .running)
 
-    totals : Totals (net .groups) (net .around) left
+    totals : Totals (net .groups .number) (net .groups .around) left
     totals = record { few = fine .sized .groups; outward = λ i l. omega (arith, fine .outward i l); small = steps .running .small }
 
-    number : (i : ℕ) → i < net .groups → getD (unplacedNumbers (net .groups) (net .around) left) i 0 ≡ unplaced (netOf net) (stateIn after left) (suc i)
+    number : (i : ℕ) → i < net .groups .number
+        → getD (unplacedNumbers (net .groups .number) (net .groups .around) left) i 0 ≡ unplaced (netOf net) (stateIn after left) (suc i)
     number i l =
         unplaced-are totals i l
-        ∙ unplaced-is (net .places) (net .groups) (net .homes) (net .around) (net .counts) (rulesOf net) (arrays (steps .running)) (suc i)
+        ∙ unplaced-is (net .places) (net .groups) (rulesOf net) (arrays (steps .running)) (suc i)

@@ -5,7 +5,7 @@ use mathlib.Core.List.{List, [], _++_}
 use native.Mathlib.Omega.{arith}
 use lib.ListN.{length, drop, length-drop, length-append}
 use Rattle.numbers.specs.declared.Read.the-variants.{Number, Nothing}
-use Rattle.numbers.specs.Number.{longestNumber, form, numberAt}
+use Rattle.numbers.specs.Number.{longestNumber, numberAt}
 use Rattle.numbers.proofs.Number.{number-within, form-length-bounds}
 use Rattle.codec.proofs.Reader.{number-at, number-none}
 use Rattle.codec.proofs.Inverse.{number-back}

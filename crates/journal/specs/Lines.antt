@@ -52,7 +52,7 @@ answerBytes (Refused n) = numbered refusedWord n
 
 -- ---- lines
 
--- so many numbers, each after a space
+-- the first n numbers of f, each after a space
 abbrev pub spaced : ℕ → (ℕ → ℕ) → List ℕ
 spaced n f = joined n (λ i. space ∷ decimal (f i))
 

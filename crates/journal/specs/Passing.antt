@@ -1,8 +1,9 @@
 -- What the functions behind the journal say: what the bytes seen so far tell, and that what they put out is what is printed.
-use Prim.Native.Nat.{ℕ, suc, _+_, _-_, _≤_, _<_}
+use Prim.Native.Nat.{ℕ, _+_, _-_, _≤_, _<_}
 use mathlib.Core.Path.{_≡_}
 use mathlib.Core.List.{List, [], _++_}
 use lib.ListN.{length, take, drop, getD}
+use Rattle.theory.specs.Replies.{value}
 use Rattle.theory.specs.Recording.{State, Alike, bound}
 use Rattle.theory.specs.Answers.{judged}
 use Rattle.numbers.specs.Number.{longestNumber}
@@ -43,10 +44,10 @@ stateIn estimates remainders =
 
 -- arrays that a run of a net has
 pub record Running (net : Net) (estimates remainders : List ℕ) : Type 0 where
-  pub good : netCheck net ≡ Good
+  pub good : netCheck net ≡ value tt
   pub long : length estimates ≡ mostPlaces
   pub wide : length remainders ≡ mostGroups
-  pub small : (i : ℕ) → i < net .groups → getD remainders i 0 ≤ bound
+  pub small : (i : ℕ) → i < net .groups .number → getD remainders i 0 ≤ bound
 
 -- ---- the description
 
@@ -78,7 +79,7 @@ pub record Steps (net : Net) (event : ℕ) (estimates remainders after left : Li
   pub leaves : Alike (netOf net) (stateIn after left) (stateAfter (netOf net) (stateIn estimates remainders) event)
   pub running : Running net after left
 
--- what is left to print where a pass stops
+-- what is left to print when a pass stops
 abbrev pub linesLeft : Stop → List ℕ → List ℕ
 linesLeft Stop.Full rest = rest
 linesLeft Stop.Short rest = rest

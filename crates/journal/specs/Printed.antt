@@ -51,7 +51,7 @@ lines net s bytes = linesUpTo (length bytes) net s bytes
 
 -- ---- the description
 
--- so many bytes; "a length that is .. past the input (1)"
+-- the first bytes; "a length that is .. past the input (1)"
 abbrev pub first : ℕ → Reader (List ℕ)
 first size bytes = cond (leb size (length bytes)) (ok (take size bytes) (drop size bytes)) (no 1)
 

@@ -5,7 +5,9 @@ use crate::lines;
 use codec::refusals;
 use net::Answer;
 use net::Checked;
+use net::Estimates;
 use net::Net;
+use net::Remainders;
 ghost use Prim.Native.Nat.{ℕ, _≤_};
 ghost use mathlib.Core.Path.{_≡_};
 ghost use mathlib.Core.List.{List};
@@ -41,15 +43,15 @@ pub fn pass_events(
     net: Net,
     seen: &[u8],
     from: usize,
-    estimates: &mut [u32; 64],
-    remainders: &mut [u32; 32],
+    estimates: &mut Estimates,
+    remainders: &mut Remainders,
     out: &mut [u8],
 ) -> Pass
-    requires { ⌜ from ≤ length (now seen) ⌝ }
-    requires { ⌜ Running net (now estimates) (now remainders) ⌝ }
-    ensures { λ r. ⌜ (r .at ≤ length (now (seen .entry))) × (r .used ≤ length (now (out .exit))) ⌝ }
-    ensures { λ r. ⌜ Unfinished (r .stop) (now (seen .entry)) (r .at) ⌝ }
-    ensures { λ r. ⌜ Passes net (now (seen .entry)) from (now (estimates .entry)) (now (remainders .entry)) (now (estimates .exit)) (now (remainders .exit)) (now (out .exit)) r ⌝ }
+    requires from { ⌜ from ≤ length (now seen) ⌝ }
+    requires running { ⌜ Running net (now estimates) (now remainders) ⌝ }
+    ensures within { λ r. ⌜ (r .at ≤ length (now (seen .entry))) × (r .used ≤ length (now (out .exit))) ⌝ }
+    ensures stop { λ r. ⌜ Unfinished (r .stop) (now (seen .entry)) (r .at) ⌝ }
+    ensures lines { λ r. ⌜ Passes net (now (seen .entry)) from (now (estimates .entry)) (now (remainders .entry)) (now (estimates .exit)) (now (remainders .exit)) (now (out .exit)) r ⌝ }
 {
     let mut at = from;
     let mut used: usize = 0;
@@ -73,15 +75,19 @@ pub fn pass_events(
             }
             Next::Number(event, after) => {
                 let answer = step_event(net, event, estimates, remainders);
-                let numbers = steps::unplaced_numbers(net.groups, &net.around, remainders);
+                let numbers = steps::unplaced_numbers(
+                    net.groups.number,
+                    &net.groups.around,
+                    remainders,
+                );
                 used = lines::put_line(
                     out,
                     used,
+                    net.places,
+                    net.groups.number,
                     event,
                     answer,
-                    net.places,
                     estimates,
-                    net.groups,
                     &numbers,
                 );
                 at = after;
@@ -95,9 +101,14 @@ pub fn pass_events(
     }
 }
 
-// Judges an event and records it. Estimates and own remainders become those after it, and stay where
+// Judges an event and records it. Estimates and own remainders become those after it, and stay if
 // it is refused.
-fn step_event(net: Net, event: u32, estimates: &mut [u32; 64], remainders: &mut [u32; 32]) -> Answer
+fn step_event(
+    net: Net,
+    event: u32,
+    estimates: &mut Estimates,
+    remainders: &mut Remainders,
+) -> Answer
     requires { ⌜ Running net (now estimates) (now remainders) ⌝ }
     ensures { λ r. ⌜ Steps net event (now (estimates .entry)) (now (remainders .entry)) (now (estimates .exit)) (now (remainders .exit)) r ⌝ }
 {
@@ -109,8 +120,8 @@ fn step_event(net: Net, event: u32, estimates: &mut [u32; 64], remainders: &mut 
     let gives = net::event_row(&net.gives, event - 1);
     let checked = steps::step(
         net.places,
-        net.groups,
-        &net.homes,
+        net.groups.number,
+        &net.groups.homes,
         &takes,
         &gives,
         estimates,
@@ -121,9 +132,9 @@ fn step_event(net: Net, event: u32, estimates: &mut [u32; 64], remainders: &mut 
     }
     limits::weigh_tables(
         net.places,
-        net.groups,
+        net.groups.number,
         net.limits,
-        &net.homes,
+        &net.groups.homes,
         &takes,
         &gives,
         estimates,
@@ -133,12 +144,12 @@ fn step_event(net: Net, event: u32, estimates: &mut [u32; 64], remainders: &mut 
     )
 }
 
-// The input ends with these bytes, which tell no number: how many bytes were put out, none where
+// The input ends with these bytes, which tell no number: how many bytes were put out, none if
 // there are none.
 pub fn leave(left: usize, out: &mut [u8]) -> usize
     requires { ⌜ longestLine ≤ length (now out) ⌝ }
-    ensures { λ r. ⌜ r ≤ length (now (out .exit)) ⌝ }
-    ensures { λ r. ⌜ ((bytes : List ℕ) (net : Theory.Net) (s : State) → length bytes ≡ left → number bytes ≡ no 1 → take r (now (out .exit)) ≡ lines net s bytes) ⌝ }
+    ensures within { λ r. ⌜ r ≤ length (now (out .exit)) ⌝ }
+    ensures lines { λ r. ⌜ ((bytes : List ℕ) (net : Theory.Net) (s : State) → length bytes ≡ left → number bytes ≡ no 1 → take r (now (out .exit)) ≡ lines net s bytes) ⌝ }
 {
     if left == 0 {
         return 0;

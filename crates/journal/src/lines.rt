@@ -1,27 +1,29 @@
 // Lines as bytes (specs/Lines.antt), put into the output at a position.
 use net::Answer;
+use net::Estimates;
+use net::Unplaced;
 use net::Verdict;
 ghost use Prim.Native.Nat.{_+_, _≤_};
 ghost use mathlib.Core.Bool.{true};
-ghost use mathlib.Core.List.{List, [], _∷_, _++_};
+ghost use mathlib.Core.List.{[], _∷_, _++_};
 ghost use lib.ListN.{length, getD};
 ghost use Rattle.codec.specs.Walk.{Room, Walked};
-ghost use Rattle.journal.specs.Lines.{decimal, space, newline, answerBytes, spaced, lineBytes, refusedBytes, longestLine};
+ghost use Rattle.journal.specs.Lines.{decimal, space, answerBytes, spaced, lineBytes, refusedBytes, longestLine};
 
 // The line of an event; the position after it.
 pub fn put_line<'a>(
     out: &mut [u8],
     at: usize,
+    places: usize,
+    groups: usize,
     event: u32,
     answer: Answer,
-    places: usize,
-    estimates: &'a [u32; 64],
-    groups: usize,
-    numbers: &'a [u32; 32],
+    estimates: &'a Estimates,
+    numbers: &'a Unplaced,
 ) -> usize
-    requires { ⌜ at + longestLine ≤ length (now out) ⌝ }
-    requires { ⌜ places ≤ 64 ⌝ }
-    requires { ⌜ groups ≤ 32 ⌝ }
+    requires room { ⌜ at + longestLine ≤ length (now out) ⌝ }
+    requires places { ⌜ places ≤ 64 ⌝ }
+    requires groups { ⌜ groups ≤ 32 ⌝ }
     ensures { λ r. ⌜ Walked true (now (out .entry)) at (lineBytes event answer places (λ p. getD (now (estimates .entry)) p 0) groups (λ i. getD (now (numbers .entry)) i 0)) (now (out .exit)) r ⌝ }
 {
     let next = put_number(out, at, event);
@@ -55,10 +57,10 @@ fn put_answer(out: &mut [u8], at: usize, answer: Answer) -> usize
     }
 }
 
-// The first of these numbers, so many, each after a space.
+// The first `count` of these numbers, each after a space.
 fn put_numbers(out: &mut [u8], at: usize, count: usize, numbers: &[u32]) -> usize
-    requires { ⌜ count ≤ length (now numbers) ⌝ }
-    requires { ⌜ Room true (now out) at (spaced count (λ i. getD (now numbers) i 0)) ⌝ }
+    requires count { ⌜ count ≤ length (now numbers) ⌝ }
+    requires room { ⌜ Room true (now out) at (spaced count (λ i. getD (now numbers) i 0)) ⌝ }
     ensures { λ r. ⌜ Walked true (now (out .entry)) at (spaced count (λ i. getD (now (numbers .entry)) i 0)) (now (out .exit)) r ⌝ }
 {
     let mut next = at;

@@ -31,8 +31,8 @@ fn main() {
 }
 
 fn journal(space: &mut [u8], out: &mut [u8])
-    requires { ⌜ longestNumber + longestDescription + longestNumber ≤ length (now space) ⌝ }
-    requires { ⌜ longestLine ≤ length (now out) ⌝ }
+    requires space { ⌜ longestNumber + longestDescription + longestNumber ≤ length (now space) ⌝ }
+    requires out { ⌜ longestLine ≤ length (now out) ⌝ }
 {
     let Filled::To(held) = streams::fill(space, 0, input::LONGEST_NUMBER) else {
         return;
@@ -50,9 +50,9 @@ fn journal(space: &mut [u8], out: &mut [u8])
 
 // The description, whose size is known and whose first bytes are in the buffer.
 fn describe(space: &mut [u8], held: usize, start: usize, size: usize, out: &mut [u8])
-    requires { ⌜ longestNumber + longestDescription + longestNumber ≤ length (now space) ⌝ }
-    requires { ⌜ (start ≤ held) × (held ≤ length (now space)) × (start ≤ longestNumber) ⌝ }
-    requires { ⌜ longestLine ≤ length (now out) ⌝ }
+    requires space { ⌜ longestNumber + longestDescription + longestNumber ≤ length (now space) ⌝ }
+    requires held { ⌜ (start ≤ held) × (held ≤ length (now space)) × (start ≤ longestNumber) ⌝ }
+    requires out { ⌜ longestLine ≤ length (now out) ⌝ }
 {
     let room = space.len() - start;
     if room < size {
@@ -80,12 +80,12 @@ fn describe(space: &mut [u8], held: usize, start: usize, size: usize, out: &mut 
     }
 }
 
-// A description that goes on for so many bytes after the buffer. It is refused, but a length past the
+// A description that goes on for `beyond` bytes after the buffer. It is refused, but a length past the
 // input comes first.
 fn describe_long(space: &mut [u8], held: usize, start: usize, beyond: usize, out: &mut [u8])
-    requires { ⌜ longestNumber + longestDescription + longestNumber ≤ length (now space) ⌝ }
-    requires { ⌜ (held ≤ length (now space)) × (start ≤ longestNumber) ⌝ }
-    requires { ⌜ longestLine ≤ length (now out) ⌝ }
+    requires space { ⌜ longestNumber + longestDescription + longestNumber ≤ length (now space) ⌝ }
+    requires held { ⌜ (held ≤ length (now space)) × (start ≤ longestNumber) ⌝ }
+    requires out { ⌜ longestLine ≤ length (now out) ⌝ }
 {
     let room = space.len();
     let Filled::To(held) = streams::fill(space, held, room) else {
@@ -110,12 +110,12 @@ fn describe_long(space: &mut [u8], held: usize, start: usize, beyond: usize, out
     }
 }
 
-// The events that stand from the position on, of which so many bytes are in the buffer. What was put
+// The events from the position `start` on; the buffer holds the first `held` bytes. What was put
 // out is written before each read: a line never waits for the next event.
 fn run(net: Net, observer: Observer, space: &mut [u8], start: usize, held: usize, out: &mut [u8])
-    requires { ⌜ Running net (observer .estimates) (observer .remainders) ⌝ }
-    requires { ⌜ (start ≤ held) × (held ≤ length (now space)) ⌝ }
-    requires { ⌜ longestLine ≤ length (now out) ⌝ }
+    requires running { ⌜ Running net (observer .estimates) (observer .remainders) ⌝ }
+    requires held { ⌜ (start ≤ held) × (held ≤ length (now space)) ⌝ }
+    requires out { ⌜ longestLine ≤ length (now out) ⌝ }
 {
     let mut estimates = observer.estimates;
     let mut remainders = observer.remainders;
@@ -158,7 +158,7 @@ fn run(net: Net, observer: Observer, space: &mut [u8], start: usize, held: usize
     }
 }
 
-// Where the input has ended: the bytes that are left of it tell no number.
+// The input has ended: the bytes that are left of it tell no number.
 fn finish(left: usize, more: More, out: &mut [u8])
     requires { ⌜ longestLine ≤ length (now out) ⌝ }
 {

@@ -1,4 +1,4 @@
-// The start of the input: the length of the description, and the description. What is put out where
+// The start of the input: the length of the description, and the description. What is put out if
 // either is refused is all that is printed.
 use crate::input;
 use crate::input::Next;
@@ -47,20 +47,20 @@ pub fn locate(seen: &[u8], out: &mut [u8]) -> Located
 // The input ends before the description does: how many bytes were put out.
 pub fn cut_short(out: &mut [u8]) -> usize
     requires { ⌜ longestLine ≤ length (now out) ⌝ }
-    ensures { λ r. ⌜ r ≤ length (now (out .exit)) ⌝ }
-    ensures { λ r. ⌜ ((seen rest : List ℕ) (start size : ℕ) → Sized seen start size → length (drop start seen ++ rest) < size → take r (now (out .exit)) ≡ printed (seen ++ rest)) ⌝ }
+    ensures within { λ r. ⌜ r ≤ length (now (out .exit)) ⌝ }
+    ensures printed { λ r. ⌜ ((seen rest : List ℕ) (start size : ℕ) → Sized seen start size → length (drop start seen ++ rest) < size → take r (now (out .exit)) ≡ printed (seen ++ rest)) ⌝ }
 {
     lines::put_refusal(out, 0, refusals::ILL_FORMED)
 }
 
 // The description, which is all there up to its end.
 pub fn open(seen: &[u8], start: usize, end: usize, out: &mut [u8]) -> Opened
-    requires { ⌜ start ≤ end ⌝ }
-    requires { ⌜ end ≤ length (now seen) ⌝ }
-    requires { ⌜ longestLine ≤ length (now out) ⌝ }
-    ensures { λ r. ⌜ r .used ≤ length (now (out .exit)) ⌝ }
-    ensures { λ r. ⌜ (r .checked ≡ Good → Running (r .net) (r .observer .estimates) (r .observer .remainders)) ⌝ }
-    ensures { λ r. ⌜ ((size : ℕ) → end ≡ start + size → Sized (now (seen .entry)) start size → Opens (now (seen .entry)) end (now (out .exit)) r) ⌝ }
+    requires start { ⌜ start ≤ end ⌝ }
+    requires end { ⌜ end ≤ length (now seen) ⌝ }
+    requires out { ⌜ longestLine ≤ length (now out) ⌝ }
+    ensures within { λ r. ⌜ r .used ≤ length (now (out .exit)) ⌝ }
+    ensures running { λ r. ⌜ (r .checked ≡ Good → Running (r .net) (r .observer .estimates) (r .observer .remainders)) ⌝ }
+    ensures opened { λ r. ⌜ ((size : ℕ) → end ≡ start + size → Sized (now (seen .entry)) start size → Opens (now (seen .entry)) end (now (out .exit)) r) ⌝ }
 {
     let read = description::read_description(&seen[start..end]);
     let checked = read.checked;
@@ -90,10 +90,10 @@ pub fn open(seen: &[u8], start: usize, end: usize, out: &mut [u8]) -> Opened
 // forwards, so that its first fault lies in what is seen, whatever follows: how many bytes were put
 // out.
 pub fn refuse_long(seen: &[u8], start: usize, out: &mut [u8]) -> usize
-    requires { ⌜ start + longestDescription + longestNumber ≤ length (now seen) ⌝ }
-    requires { ⌜ longestLine ≤ length (now out) ⌝ }
-    ensures { λ r. ⌜ r ≤ length (now (out .exit)) ⌝ }
-    ensures { λ r. ⌜ ((rest : List ℕ) (size : ℕ) → Sized (now (seen .entry)) start size → length (drop start (now (seen .entry))) ≤ size → size ≤ length (drop start (now (seen .entry)) ++ rest) → take r (now (out .exit)) ≡ printed (now (seen .entry) ++ rest)) ⌝ }
+    requires seen { ⌜ start + longestDescription + longestNumber ≤ length (now seen) ⌝ }
+    requires out { ⌜ longestLine ≤ length (now out) ⌝ }
+    ensures within { λ r. ⌜ r ≤ length (now (out .exit)) ⌝ }
+    ensures printed { λ r. ⌜ ((rest : List ℕ) (size : ℕ) → Sized (now (seen .entry)) start size → length (drop start (now (seen .entry))) ≤ size → size ≤ length (drop start (now (seen .entry)) ++ rest) → take r (now (out .exit)) ≡ printed (now (seen .entry) ++ rest)) ⌝ }
 {
     let read = description::read_description(&seen[start..]);
     let checked = read.checked;

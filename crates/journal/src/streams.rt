@@ -31,12 +31,12 @@ pub enum Filled {
     Failed,
 }
 
-// Reads until the buffer has so many bytes or the input ends.
+// Reads until the buffer has `wanted` bytes or the input ends.
 pub fn fill(space: &mut [u8], held: usize, wanted: usize) -> Filled
-    requires { ⌜ held ≤ length (now space) ⌝ }
-    requires { ⌜ wanted ≤ length (now space) ⌝ }
-    ensures { λ r. ⌜ Holds held (length (now (space .entry))) r ⌝ }
-    ensures { λ _. ⌜ take held (now (space .exit)) ≡ take held (now (space .entry)) ⌝ }
+    requires held { ⌜ held ≤ length (now space) ⌝ }
+    requires wanted { ⌜ wanted ≤ length (now space) ⌝ }
+    ensures answer { λ r. ⌜ Holds held (length (now (space .entry))) r ⌝ }
+    ensures kept { λ _. ⌜ take held (now (space .exit)) ≡ take held (now (space .entry)) ⌝ }
 {
     let mut end = held;
     while end < wanted {
@@ -59,8 +59,8 @@ pub fn fill(space: &mut [u8], held: usize, wanted: usize) -> Filled
 // Reads some bytes after those that the buffer has.
 pub fn read_more(space: &mut [u8], held: usize) -> More
     requires { ⌜ held ≤ length (now space) ⌝ }
-    ensures { λ r. ⌜ Came held (length (now (space .entry))) r ⌝ }
-    ensures { λ _. ⌜ take held (now (space .exit)) ≡ take held (now (space .entry)) ⌝ }
+    ensures answer { λ r. ⌜ Came held (length (now (space .entry))) r ⌝ }
+    ensures kept { λ _. ⌜ take held (now (space .exit)) ≡ take held (now (space .entry)) ⌝ }
 {
     // A proved loop has to end, and nothing says that interruptions do: so many turns no run uses up.
     let mut turns = u64::MAX;
@@ -85,8 +85,8 @@ pub fn read_more(space: &mut [u8], held: usize) -> More
 
 fn read_once(space: &mut [u8], held: usize) -> Once
     requires { ⌜ held ≤ length (now space) ⌝ }
-    ensures { λ r. ⌜ Moves held (length (now (space .entry))) r ⌝ }
-    ensures { λ _. ⌜ take held (now (space .exit)) ≡ take held (now (space .entry)) ⌝ }
+    ensures answer { λ r. ⌜ Moves held (length (now (space .entry))) r ⌝ }
+    ensures kept { λ _. ⌜ take held (now (space .exit)) ≡ take held (now (space .entry)) ⌝ }
 {
     let got = libc::read(STDIN_FILENO, &mut space[held..]);
     let count = io::count(got, &space[held..]);
@@ -99,7 +99,7 @@ fn read_once(space: &mut [u8], held: usize) -> Once
     failure(b"journal: standard input")
 }
 
-// Writes the first bytes of the output, so many; false where that failed.
+// Writes the first `used` bytes of the output; false if that failed.
 pub fn write_out(out: &[u8], used: usize) -> bool
     requires { ⌜ used ≤ length (now out) ⌝ }
 {
@@ -151,7 +151,7 @@ fn failure(stream: &[u8]) -> Once
     Once::Failed
 }
 
-// Reads so many bytes and drops them, and perhaps some after them. All were there; the input ended
+// Reads `count` bytes and drops them, and perhaps some after them. All were there; the input ended
 // before; or a failure that was told.
 pub enum Skipped {
     All,
@@ -181,7 +181,7 @@ pub fn skip(space: &mut [u8], count: usize) -> Skipped {
     Skipped::All
 }
 
-// Moves so many bytes from a position to the front.
+// Moves `count` bytes from a position to the front.
 pub fn move_down(space: &mut [u8], at: usize, count: usize)
     requires { ⌜ at + count ≤ length (now space) ⌝ }
     ensures { λ _. ⌜ take count (now (space .exit)) ≡ take count (drop at (now (space .entry))) ⌝ }

@@ -36,19 +36,19 @@ pub data Found : Type 0 where
   found : ℕ → ℕ → Found
   nothing : Found
 
--- one group put before those of `rest`, whose form is not the shortest where `rest` is zero
+-- one group put before those of `rest`, whose form is not the shortest if `rest` is zero
 unfoldable pub before : ℕ → Found → Found
 before group nothing = nothing
 before group (found rest size) = cond (eqb rest 0) nothing (found (group + 128 * rest) (size + 1))
 
--- a seven-bit form of any size at the front of the bytes; nothing where it is incomplete or not the shortest
+-- a seven-bit form of any size at the front of the bytes; nothing if it is incomplete or not the shortest
 unfoldable pub front : List ℕ → Found
 front [] = nothing
 front (byte ∷ bytes) =
     let more = before (byte - 128) (front bytes) in
     cond (ltb byte 128) (found byte 1) (cond (ltb byte 256) more nothing)
 
--- nothing where the number is too large
+-- nothing if the number is too large
 unfoldable pub small : Found → Found
 small nothing = nothing
 small (found n size) = cond (leb n largest) (found n size) nothing
@@ -72,10 +72,10 @@ numberAt bytes at = after at (number (drop at bytes))
 unfoldable pub room : List ℕ → ℕ → ℕ → Bool
 room out at n = leb (at + length (form n)) (length out)
 
--- the position after the form of n, where there is room for it
+-- the position after the form of n, if there is room for it
 unfoldable pub writtenAt : List ℕ → ℕ → ℕ → Written
 writtenAt out at n = cond (room out at n) (Next (at + length (form n))) Full
 
--- the bytes with the form of n at a position, where there is room for it; the same bytes otherwise
+-- the bytes with the form of n at a position, if there is room for it; the same bytes otherwise
 unfoldable pub writeAt : List ℕ → ℕ → ℕ → List ℕ
 writeAt out at n = cond (room out at n) (take at out ++ form n ++ drop (at + length (form n)) out) out

@@ -35,7 +35,7 @@ pub fn number_length(number: u32) -> usize
     ((38 - u32::leading_zeros(number)) / 7) as usize
 }
 
-// The number at the position, and the position after it; nothing where the bytes there are not a
+// The number at the position, and the position after it; nothing if the bytes there are not a
 // complete, shortest form of a number that is small enough.
 pub fn read_number(s: &[u8], at: usize) -> Read
     ensures { λ r. ⌜ r ≡ numberAt (now (s .entry)) at ⌝ }
@@ -43,7 +43,7 @@ pub fn read_number(s: &[u8], at: usize) -> Read
     if s.len() <= at {
         return Read::Nothing;
     }
-    let first = wide(s[at]);
+    let first = in_64_bits(s[at]);
     if first < 128 {
         let number = first as u32;
         let next = at + 1;
@@ -63,7 +63,7 @@ fn read_groups(s: &[u8], at: usize, first: u64) -> Read
     let mut low = first - 128;
     let mut unit: u64 = 128;
     while next < s.len() {
-        let group = wide(s[next]);
+        let group = in_64_bits(s[next]);
         next += 1;
         if group < 128 {
             if group == 0 {
@@ -86,13 +86,13 @@ fn read_groups(s: &[u8], at: usize, first: u64) -> Read
 }
 
 // The byte as a number that has room for all groups.
-fn wide(byte: u8) -> u64
+fn in_64_bits(byte: u8) -> u64
     ensures { λ r. ⌜ (r ≡ byte) × (r < 256) ⌝ }
 {
     byte as u64
 }
 
-// Writes the number at the position and answers the position after it; where there is no room for
+// Writes the number at the position and answers the position after it; if there is no room for
 // all of its bytes, writes nothing and answers so.
 pub fn write_number(out: &mut [u8], at: usize, number: u32) -> Written
     ensures { λ r. ⌜ r ≡ writtenAt (now (out .entry)) at number ⌝ }

@@ -9,7 +9,7 @@ use lib.Dec.{leb}
 use lib.ListN.{length}
 use Rattle.theory.specs.Nets.{Net, Marking}
 use Rattle.theory.specs.Firing.{Same, Consistent}
-use Rattle.theory.specs.Recording.{State, Alike, Within, Fitting, fresh, next, known, published}
+use Rattle.theory.specs.Recording.{State, Alike, Within, fresh, next, known, published}
 use Rattle.theory.proofs.Recording.{next-iff}
 use Rattle.theory.specs.Replies.{Reply, value, refusal, _>>=_, question}
 use Rattle.theory.specs.Answers.{recorded, judged, noRoom}
@@ -23,6 +23,7 @@ use Rattle.theory.specs.Calls.{Call}
 use Rattle.theory.specs.Demands.{Demand2, Demand3}
 use Rattle.theory.proofs.Lists.{Tied, both, neither, full, Ties, Kept, kept-standing, tied-told, safe-standing}
 use Rattle.theory.proofs.Lists as Lists
+use Rattle.theory.proofs.Fitting.{Fitting}
 use Rattle.codec.specs.Reader.{ok, read}
 use Rattle.codec.proofs.Inverse.{read-ok}
 use Rattle.codec.specs.Output.{fitting, answer}

@@ -19,11 +19,12 @@ use Rattle.codec.specs.Joined.{joined}
 use mathlib.Core.Bool.{Bool, true}
 use Rattle.net.specs.Check.{shared, shareFits, hasPlace}
 use Rattle.members.specs.Members.{place, innerGroups, members, memberList, group, outermost}
-use Rattle.rows.specs.Rows.{entries, row, risingPlace, filled, arc, event, signedWithin, term, limit}
+use Rattle.codec.specs.Places.{risingPlace}
+use Rattle.rows.specs.Rows.{entries, row, filled, arc, event, signedWithin, term, limit}
 use Rattle.description.specs.Grammar.{head, limitsToEnd, parts}
 use Rattle.description.proofs.Examples.{poolBytes}
 use Rattle.states.specs.States as States
-use Rattle.states.specs.States.{values, saved, stateFrom, state}
+use Rattle.states.specs.States.{countedValues, saved, stateFrom, state}
 use Rattle.states.specs.States.Writing.{valuesBytes, stateBytes}
 use Rattle.observer.specs.Bytes.{freshReply, recordReply, judgeReply, knownReply}
 use Rattle.promises.specs.Lists.{host}
@@ -71,7 +72,7 @@ pub cases-hold : map computed cases ≡ map expected cases
 unfolding cases poolBytes form groups stored number Stored.number Stored.front Stored.before Stored.small many end signed
     freshReply recordReply judgeReply knownReply standing standingFrom begin call
     place innerGroups members memberList group outermost entries row risingPlace filled arc event signedWithin term limit head limitsToEnd parts
-    shared shareFits hasPlace States.value values saved stateFrom state valuesBytes stateBytes joined
+    shared shareFits hasPlace States.value countedValues saved stateFrom state valuesBytes stateBytes joined
     ask recorded judged lowest holds fresh share less inner possible raises raise own direct sum every next moved inRange change sumℤ heaviest heaviestPlace
     top limitSum amount known unplaced gathered among inside
 cases-hold = refl

@@ -19,12 +19,13 @@ use Rattle.net.specs.declared.Net.{Net}
 use Rattle.net.specs.Bounds.{mostPlaces, mostEvents, mostGroups, mostLimits, mostTake, mostCeiling, mostWeight}
 use Rattle.net.specs.Check.{shared, shareFits, hasPlace}
 use Rattle.members.specs.Members.{place, innerGroups, members, memberList, group, outermost}
-use Rattle.rows.specs.Rows.{entries, row, risingPlace, arc, event, signedWithin, term, limit}
+use Rattle.codec.specs.Places.{risingPlace}
+use Rattle.rows.specs.Rows.{entries, row, arc, event, signedWithin, term, limit}
 use Rattle.description.specs.Grammar.{Parts, head, limitsToEnd, parts, netFrom, description}
 use Rattle.description.specs.Read.{longestDescription, descriptionRead}
 use Rattle.description.proofs.Longest.{longest-description}
 use Rattle.states.specs.States as States
-use Rattle.states.specs.States.{edition, values, saved, stateFrom, state}
+use Rattle.states.specs.States.{edition, countedValues, saved, stateFrom, state}
 use Rattle.states.specs.States.Writing.{valuesBytes}
 use Rattle.states.specs.States.Nets.{longestState, restored}
 use Rattle.states.proofs.Longest.{longest-state}
@@ -72,7 +73,7 @@ full-lengths = (refl, refl)
 full-read : (read (parts fullDescription) >>= λ x. stateIn (netIn x) fullState >>= λ s. value (s .estimate 0)) ≡ value bound
 unfolding fullDescription fullState valuesBytes joined flatMap form groups number Stored.number Stored.front Stored.before
     Stored.small parts head limitsToEnd many end outermost memberList members innerGroups place group event limit entries row
-    risingPlace arc term signedWithin signed shared shareFits hasPlace every direct sum inner state stateFrom saved values States.value
+    risingPlace arc term signedWithin signed shared shareFits hasPlace every direct sum inner state stateFrom saved countedValues States.value
 full-read = refl
 
 -- of two questions that are answered, the first is

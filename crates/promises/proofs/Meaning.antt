@@ -13,7 +13,6 @@ use Rattle.theory.proofs.SameNet.{judge-same, recorded-same}
 use Rattle.codec.specs.Reader.{Result, ok, no, onward, done, read}
 use Rattle.net.specs.declared.Net.{Net}
 use Rattle.net.specs.declared.Observer.{Observer}
-use Rattle.net.specs.declared.Checked.the-variants.{Good}
 use Rattle.net.specs.View.{groupsOf, netOf}
 use Rattle.net.specs.Check.{netCheck}
 use Rattle.net.specs.Observers.{observerOf, freshObserver}
@@ -35,10 +34,10 @@ use Rattle.promises.proofs.Values.{fresh-fit, same-recorded, same-judge
 
 -- ---- on values, for a net that meets no question: the calls at what is restored are the theory's
 
-module _ (net : Net) (checked : netCheck net ≡ Good) where
+module _ (net : Net) (checked : netCheck net ≡ value tt) where
   -- a call at the observer that is restored from bytes, and what the theory says at the state in them
   restored-then : {B : Type 0} (call : Observer → Reply B) (says : State → Reply B)
-      → ((s : State) → Fit (net .places) (groupsOf net) s → call (observerOf net s) ≡ says s)
+      → ((s : State) → Fit (net .places) (groupsOf (net .groups)) s → call (observerOf net s) ≡ says s)
       → (b : List ℕ) → (restoredObserver net b >>= call) ≡ (stateIn (netOf net) b >>= says)
   unfolding restoredObserver
   restored-then call says same b = rw checked (go (restored (netOf net) b) refl)
@@ -52,7 +51,7 @@ module _ (net : Net) (checked : netCheck net ≡ Good) where
   unfolding freshObserver
   fresh-output = rw checked (output-is net checked (fresh (netOf net)) (fresh-fit net checked))
 
-  recorded-output : (number : ℕ) (s : State) → Fit (net .places) (groupsOf net) s
+  recorded-output : (number : ℕ) (s : State) → Fit (net .places) (groupsOf (net .groups)) s
       → (recordedObserver net (observerOf net s) number >>= observerOutput net)
       ≡ (recorded (netOf net) s number >>= λ t. value (saved (netOf net) t))
   recorded-output number s fit = rw (same-recorded net checked s fit number) (go (recorded (netOf net) s number) refl)
@@ -62,7 +61,7 @@ module _ (net : Net) (checked : netCheck net ≡ Good) where
       go (value t) u = output-is net checked t (recorded-fit (netOf net) number fit u)
       go (refusal n) u = refl
 
-  known-is : (s : State) → Fit (net .places) (groupsOf net) s → observerKnown net (observerOf net s) ≡ value (known (netOf net) s)
+  known-is : (s : State) → Fit (net .places) (groupsOf (net .groups)) s → observerKnown net (observerOf net s) ≡ value (known (netOf net) s)
   unfolding observerKnown
   known-is s fit = rw (both-good net checked s fit) (ap value (known-alike (netOf net) (state-observer net checked s fit)))
 
@@ -72,7 +71,7 @@ module _ (d left : List ℕ) (x : Parts) (e : parts d ≡ ok x left) where
   abbrev net : Net
   net = netFrom x
 
-  checked : netCheck net ≡ Good
+  checked : netCheck net ≡ value tt
   checked = fine-good net (fine d left x e)
 
   same : SameNet (netIn x) (netOf net)

@@ -4,16 +4,13 @@ use mathlib.Core.Path.{_≡_, refl, sym}
 use mathlib.Core.List.{List}
 use Rattle.theory.specs.Nets as Theory
 use Rattle.theory.specs.Recording.{State, Alike}
-use Rattle.theory.specs.Replies.{value, _>>=_}
+use Rattle.theory.specs.Replies.{Reply, value, refusal, _>>=_}
 use Rattle.theory.proofs.Answers.{clash}
 use Rattle.numbers.proofs.RoundTrips.{written-read, read-written}
 use Rattle.numbers.proofs.Signed.{signed-stored, stored-signed}
 use Rattle.codec.proofs.Inverse.{read-ok}
 use Rattle.net.specs.declared.Net.{Net}
-use Rattle.net.specs.declared.Checked.{Checked}
-use Rattle.net.specs.declared.Checked.the-variants.{Good, Refused}
 use Rattle.net.specs.Check.{netCheck}
-use Rattle.net.specs.Answers.{checkedReply}
 use Rattle.description.specs.Grammar.{description}
 use Rattle.description.specs.Read.{descriptionRead}
 use Rattle.description.specs.Writing.{netBytes, written}
@@ -32,10 +29,9 @@ description-written : (net : Net) (b : List ℕ) → Full net → written net �
 unfolding written descriptionRead
 description-written net b full u = go (netCheck net) refl u
   where
-    go : (c : Checked) → netCheck net ≡ c → (checkedReply c >>= λ _. value (netBytes net)) ≡ value b
-        → descriptionRead b ≡ value net
-    go Good v w = let same : netBytes net ≡ b = cc in rw (← same, Descriptions.read-write net full v)
-    go (Refused n) v w = clash (cc)
+    go : (c : Reply Unit) → netCheck net ≡ c → (c >>= λ _. value (netBytes net)) ≡ value b → descriptionRead b ≡ value net
+    go (value x) v w = let same : netBytes net ≡ b = cc in rw (← same, Descriptions.read-write net full v)
+    go (refusal n) v w = clash (cc)
 
 description-read : (net : Net) (b : List ℕ) → descriptionRead b ≡ value net → written net ≡ value b
 unfolding written descriptionRead

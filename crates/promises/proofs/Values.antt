@@ -25,7 +25,6 @@ use Rattle.theory.proofs.Lists as Lists
 use Rattle.codec.proofs.Joined.{length-listed}
 use Rattle.net.specs.declared.Net.{Net}
 use Rattle.net.specs.declared.Observer.{Observer}
-use Rattle.net.specs.declared.Checked.the-variants.{Good}
 use Rattle.net.specs.Bounds.{mostPlaces, mostGroups}
 use Rattle.net.specs.View.{groupsOf, netOf}
 use Rattle.net.specs.Check.{netCheck}
@@ -45,10 +44,10 @@ use Rattle.promises.proofs.Bytes.{fit-fitting, recorded-fit}
 -- an observer of a state that fits
 pub record ObserverOf (net : Net) (o : Observer) (s : State) : Type 0 where
   pub is : o ≡ observerOf net s
-  pub fit : Fit (net .places) (groupsOf net) s
+  pub fit : Fit (net .places) (groupsOf (net .groups)) s
 
 -- recording leaves the observer of the theory's next state
-recorded-tied : (net : Net) (s : State) → Fit (net .places) (groupsOf net) s → (number : ℕ)
+recorded-tied : (net : Net) (s : State) → Fit (net .places) (groupsOf (net .groups)) s → (number : ℕ)
     → Tied (ObserverOf net) (recorded (netOf net) s number >>= λ t. value (observerOf net t)) (recorded (netOf net) s number)
 recorded-tied net s fit number = go (recorded (netOf net) s number) refl
   where
@@ -59,10 +58,10 @@ recorded-tied net s fit number = go (recorded (netOf net) s number) refl
 -- ---- at an observer that fits the net
 
 module _ (net : Net) (o : Observer) (met : bothCheck net o ≡ value tt) where
-  checked : netCheck net ≡ Good
+  checked : netCheck net ≡ value tt
   checked = both-passed net o met .0
 
-  fit : Fit (net .places) (groupsOf net) (stateOf o)
+  fit : Fit (net .places) (groupsOf (net .groups)) (stateOf o)
   fit = state-fits net checked o (both-passed net o met .1)
 
   recorded-is : (number : ℕ) → recordedObserver net o number ≡ (recorded (netOf net) (stateOf o) number >>= λ t. value (observerOf net t))
@@ -112,31 +111,31 @@ module _ (net : Net) (o : Observer) (met : bothCheck net o ≡ value tt) where
 
 -- ---- after a list
 
-module _ (net : Net) (checked : netCheck net ≡ Good) where
+module _ (net : Net) (checked : netCheck net ≡ value tt) where
   fresh-is : observedOf (freshObserver net) .observer ≡ observerOf net (fresh (netOf net))
   unfolding freshObserver
   fresh-is = rw checked
 
-  pub fresh-fit : Fit (net .places) (groupsOf net) (fresh (netOf net))
+  pub fresh-fit : Fit (net .places) (groupsOf (net .groups)) (fresh (netOf net))
   fresh-fit =
       let well = well-formed net checked in
       fit-fresh (netOf net) (well .good) (λ i l.
       rw (before net checked i) (well .valued .counts .small i (omega (arith, well .sized .groups))))
 
   -- the calls at an observer of a state are the theory's at the state
-  pub same-recorded : (s : State) → Fit (net .places) (groupsOf net) s → (number : ℕ)
+  pub same-recorded : (s : State) → Fit (net .places) (groupsOf (net .groups)) s → (number : ℕ)
       → recordedObserver net (observerOf net s) number ≡ (recorded (netOf net) s number >>= λ t. value (observerOf net t))
   unfolding recordedObserver
   same-recorded s fit number =
       rw (both-good net checked s fit)
       (recorded-alike (netOf net) (state-observer net checked s fit) (observerOf net) (λ t u. same-observer net checked) number)
 
-  pub same-judged : (s : State) → Fit (net .places) (groupsOf net) s → (number : ℕ)
+  pub same-judged : (s : State) → Fit (net .places) (groupsOf (net .groups)) s → (number : ℕ)
       → observerJudged net (observerOf net s) number ≡ judged (netOf net) s number
   unfolding observerJudged
   same-judged s fit number = rw (both-good net checked s fit) (judge-alike (netOf net) (state-observer net checked s fit) number)
 
-  restored-back : (s : State) → Fit (net .places) (groupsOf net) s
+  restored-back : (s : State) → Fit (net .places) (groupsOf (net .groups)) s
       → restoredObserver net (bytesOf (observerOutput net (observerOf net s))) ≡ value (observerOf net s)
   restored-back s fit =
       let out = output-is net checked s fit in

@@ -14,7 +14,7 @@ use Rattle.net.specs.Observers.{observedOf, freshObserver}
 use Rattle.description.specs.Read.{descriptionRead}
 use Rattle.values.specs.Values.{recordedObserver, observerJudged, observerOutput}
 
--- the first observer where the event is allowed
+-- the first observer if the event is allowed
 abbrev pub whereAllowed : Answer → Observer → Observer → Observer
 whereAllowed (Given Allow) after before = after
 whereAllowed (Given (Hold limit)) after before = before

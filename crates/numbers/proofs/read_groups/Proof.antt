@@ -16,19 +16,19 @@ abbrev μ-loop : tie.MeasureT-loop
 μ-loop s at first next₀ low₀ unit₀ next low unit = length s - next
 
 -- a turn, once its byte is read
-abbrev At-turn : tie.After-wide Inv-loop μ-loop → Type 0
+abbrev At-turn : tie.After-in-64-bits Inv-loop μ-loop → Type 0
 At-turn c =
     let at-loop = c .before .before .before in
     let args = at-loop .before .before .args in
     let loop = at-loop .loop in
-    Turn (now (args .s)) (args .at) (loop .next) (loop .low) (loop .unit) (c .wide .result)
+    Turn (now (args .s)) (args .at) (loop .next) (loop .low) (loop .unit) (c .in-64-bits .result)
 
-turn : (c : tie.After-wide Inv-loop μ-loop) → At-turn c
+turn : (c : tie.After-in-64-bits Inv-loop μ-loop) → At-turn c
 turn c = record {
   reading = c .before .before .before .loop .inv;
   more = c .before .before .loop-test .taken;
-  is = c .wide .ensures .0;
-  below = c .wide .ensures .1;
+  is = c .in-64-bits .ensures .0;
+  below = c .in-64-bits .ensures .1;
 }
 
 add-next : tie.Need-add-next Inv-loop μ-loop
@@ -43,11 +43,11 @@ loop-holds c =
     let byte = c .shared-slice-known .given (args .at) in
     reading-first (now (args .s)) (args .at) (args .first) (omega arith) (c .before .pre .1 .0) (omega arith) (omega (arith, byte))
 
-shared-slice-read-wide : tie.Need-shared-slice-read-wide Inv-loop μ-loop
-shared-slice-read-wide c = omega arith
+shared-slice-read-in-64-bits : tie.Need-shared-slice-read-in-64-bits Inv-loop μ-loop
+shared-slice-read-in-64-bits c = omega arith
 
-wide-requires : tie.Need-wide-requires Inv-loop μ-loop
-wide-requires c κs = search needs
+in-64-bits-requires : tie.Need-in-64-bits-requires Inv-loop μ-loop
+in-64-bits-requires c κs = search needs
 
 add-next-2 : tie.Need-add-next-2 Inv-loop μ-loop
 add-next-2 c = omega arith
@@ -56,10 +56,10 @@ returns : tie.Need-returns Inv-loop μ-loop
 returns c = last-zero (turn (c .before .before)) (omega arith)
 
 mul-value : tie.Need-mul-value Inv-loop μ-loop
-mul-value c = let w = c .before .before in omega (arith, reading-fits (turn w .reading) (w .wide .result) (omega arith))
+mul-value c = let w = c .before .before in omega (arith, reading-fits (turn w .reading) (w .in-64-bits .result) (omega arith))
 
 add-value : tie.Need-add-value Inv-loop μ-loop
-add-value c = let w = c .before .before in omega (arith, reading-fits (turn w .reading) (w .wide .result) (omega arith))
+add-value c = let w = c .before .before in omega (arith, reading-fits (turn w .reading) (w .in-64-bits .result) (omega arith))
 
 returns-2 : tie.Need-returns-2 Inv-loop μ-loop
 returns-2 c = last-large (turn (c .before .before .before)) (omega arith) (omega arith) (omega arith)
@@ -74,10 +74,10 @@ returns-4 : tie.Need-returns-4 Inv-loop μ-loop
 returns-4 c = more-large (turn (c .before .before)) (omega arith) (omega arith)
 
 mul-low : tie.Need-mul-low Inv-loop μ-loop
-mul-low c = let w = c .before .before in omega (arith, reading-fits (turn w .reading) (w .wide .result - 128) (omega arith))
+mul-low c = let w = c .before .before in omega (arith, reading-fits (turn w .reading) (w .in-64-bits .result - 128) (omega arith))
 
 add-low : tie.Need-add-low Inv-loop μ-loop
-add-low c = let w = c .before .before in omega (arith, reading-fits (turn w .reading) (w .wide .result - 128) (omega arith))
+add-low c = let w = c .before .before in omega (arith, reading-fits (turn w .reading) (w .in-64-bits .result - 128) (omega arith))
 
 mul-unit : tie.Need-mul-unit Inv-loop μ-loop
 mul-unit c = omega arith
@@ -100,8 +100,8 @@ read-groups-spec =
     add-next
     sub-low
     loop-holds
-    shared-slice-read-wide
-    wide-requires
+    shared-slice-read-in-64-bits
+    in-64-bits-requires
     add-next-2
     returns
     mul-value

@@ -10,11 +10,11 @@ use Rattle.numbers.proofs.read_number.Tie as tie
 returns : tie.Need-returns
 returns c = at-end (now (c .before .before .args .s)) (c .before .before .args .at) (omega arith)
 
-shared-slice-read-wide : tie.Need-shared-slice-read-wide
-shared-slice-read-wide c = search needs
+shared-slice-read-in-64-bits : tie.Need-shared-slice-read-in-64-bits
+shared-slice-read-in-64-bits c = search needs
 
-wide-requires : tie.Need-wide-requires
-wide-requires c κs = search needs
+in-64-bits-requires : tie.Need-in-64-bits-requires
+in-64-bits-requires c κs = search needs
 
 cast-number : tie.Need-cast-number
 cast-number c = search needs
@@ -24,9 +24,9 @@ add-next c = search needs
 
 returns-2 : tie.Need-returns-2
 returns-2 c =
-    let wide = c .before .wide in
+    let in-64-bits = c .before .in-64-bits in
     let args = c .before .before .before .before .before .args in
-    at-one (now (args .s)) (args .at) (wide .result) (omega arith) (wide .ensures .0) (omega arith)
+    at-one (now (args .s)) (args .at) (in-64-bits .result) (omega arith) (in-64-bits .ensures .0) (omega arith)
 
 read-groups-requires : tie.Need-read-groups-requires
 read-groups-requires c κs = search needs
@@ -39,8 +39,8 @@ read-number-spec =
     tie.close
     (tie.spec
     returns
-    shared-slice-read-wide
-    wide-requires
+    shared-slice-read-in-64-bits
+    in-64-bits-requires
     cast-number
     add-next
     returns-2

@@ -19,6 +19,7 @@ pub use Rattle.numbers.specs.Signed.{stored, signed}
 pub use Rattle.codec.specs.declared.Wrote.{Wrote}
 pub use Rattle.codec.specs.declared.Wrote.the-variants.{Bytes}
 pub use Rattle.codec.specs.Reader.{passed, passedReply, readReply}
+pub use Rattle.codec.specs.Places.{placeAt, placeReply}
 pub use Rattle.codec.specs.Output.{answer, left, wroteReply, writtenReply}
 pub use Rattle.net.specs.declared.Net.{Net}
 pub use Rattle.net.specs.declared.Observer.{Observer}
@@ -30,7 +31,7 @@ pub use Rattle.net.specs.declared.Answer.the-variants.{Given}
 pub use Rattle.net.specs.Bounds.{mostPlaces, mostGroups}
 pub use Rattle.net.specs.View.{netOf}
 pub use Rattle.net.specs.Check.{netCheck}
-pub use Rattle.net.specs.Answers.{answerOf, knownOf, checkedReply, answerReply, reportReply}
+pub use Rattle.net.specs.Answers.{answerOf, knownOf, checkedOf, checkedReply, answerReply, reportReply}
 pub use Rattle.net.specs.Observers.{stateOf, observedOf, freshObserver}
 pub use Rattle.description.specs.Outline.{limitsAt}
 pub use Rattle.description.specs.Read.{longestDescription, descriptionRead, netRead}

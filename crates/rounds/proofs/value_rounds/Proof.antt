@@ -5,7 +5,6 @@ use mathlib.Core.List.{List}
 use borrow.Author.Needs.{needs}
 use denote.Ref.{now}
 use lib.ListN.{length}
-use Rattle.theory.specs.Replies.{Reply}
 use Rattle.codec.specs.Output.{answer, left}
 use Rattle.description.specs.Read.{descriptionRead}
 use Rattle.description.proofs.Answered.{good-read, refused-read}

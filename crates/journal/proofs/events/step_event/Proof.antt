@@ -61,7 +61,7 @@ returns-2 c =
     let event = numbered (takes .before) in
     let start = event .before .before in
     step-refused (start .pre) (start .args .event) (start .args .event - 1) (omega (arith, among event)) (omega (arith, among event))
-    (takes .event-row .ensures) (gives .event-row2 .ensures) (step .step .ensures .0) (step .step .ensures .1 .0) (step .step .ensures .1 .1) _ (c .before .checked .given .1)
+    (takes .event-row .ensures) (gives .event-row2 .ensures) (step .step .ensures) _ (c .before .checked .given .1)
 
 enum-told : tie.Need-enum-told
 enum-told c = search needs
@@ -78,7 +78,7 @@ returns-3 c =
     let event = numbered (takes .before) in
     let start = event .before .before in
     step-recorded (start .pre) (start .args .event) (start .args .event - 1) (omega (arith, among event)) (omega (arith, among event))
-    (takes .event-row .ensures) (gives .event-row2 .ensures) (step .step .ensures .0) (step .step .ensures .1 .0) (step .step .ensures .1 .1) (told .enum-told .given .1)
+    (takes .event-row .ensures) (gives .event-row2 .ensures) (step .step .ensures) (told .enum-told .given .1)
     (c .weigh-tables .ensures)
 
 pub step-event-spec : {M : Type 1} → statement M

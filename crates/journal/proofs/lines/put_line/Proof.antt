@@ -1,7 +1,6 @@
 -- `journal::lines::put_line` meets its contract: its parts one after the other.
 use mathlib.Core.Bool.{true}
 use native.Mathlib.Omega.{arith}
-use borrow.Author.Needs.{needs}
 use lib.ListN.{getD}
 use denote.Ref.{now}
 use Rattle.codec.specs.Walk.{Room}

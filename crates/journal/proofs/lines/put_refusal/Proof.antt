@@ -1,12 +1,11 @@
 -- `journal::lines::put_refusal` meets its contract: the word, the number and a newline.
 use mathlib.Core.Bool.{true}
-use mathlib.Core.List.{List, [], _∷_, _++_}
 use native.Mathlib.Omega.{arith}
 use borrow.Author.Needs.{needs}
 use denote.Ref.{now}
 use Rattle.codec.specs.Walk.{Room}
 use Rattle.codec.proofs.Walk.{walked-length, walked-both, room-first, room-next}
-use Rattle.journal.specs.Lines.{decimal, newline, refusedBytes}
+use Rattle.journal.specs.Lines.{refusedBytes}
 use Rattle.journal.proofs.Putting.{refused-room}
 use Rattle.journal.proofs.lines.put_refusal.Statement.{statement}
 use Rattle.journal.proofs.lines.put_refusal.Tie as tie
