@@ -1,14 +1,11 @@
 -- The laws of signed numbers as stored ones: each is had back from the other, and the ranges are each other's.
-use Prim.Native.Nat.{ℕ, _+_, _*_, _/_, _%_, _^_, _≤_, _<_}
+use Prim.Native.Nat.{ℕ, _+_, _*_, _/_, _%_}
 use mathlib.Core.Path.{_≡_, refl, ap, _∙_}
 use mathlib.Core.Bool.{cond, Bool, true, false}
-use mathlib.Core.Logic.{_↔_}
 use native.Mathlib.Omega.{arith}
 use borrow.Author.Tests.{eq-eqb, ne-eqb, eqb-true, eqb-false}
 use lib.IntN.{ℤ, pos, negsuc}
-use lib.Signed.{mag}
 use lib.Dec.{eqb}
-use Rattle.numbers.specs.Number.{largest}
 use Rattle.numbers.specs.Signed.{stored, signed}
 
 -- the signed number that an even one stands for, and an odd one
@@ -33,9 +30,3 @@ stored-signed n = go (eqb (n % 2) 0) refl
     go : (even : Bool) → eqb (n % 2) 0 ≡ even → stored (cond even (pos (n / 2)) (negsuc (n / 2))) ≡ n
     go true e = omega (arith, eqb-true (n % 2) 0 e)
     go false e = omega (arith, eqb-false (n % 2) 0 e)
-
--- the 2 ^ 32 signed numbers around zero are those that fit a stored number
-pub stored-small : (z : ℤ) → (stored z ≤ largest) ↔ (mag z < 2 ^ 31)
-unfolding stored
-stored-small (pos n) = omega arith
-stored-small (negsuc n) = omega arith
