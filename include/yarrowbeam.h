@@ -1,9 +1,10 @@
 /* Yarrowbeam's observer, as a host calls it.
  *
  * A description (d) says what the net is, a saved state (s) what is known of it. Both are bytes; README.md shows them for
- * one net. No call keeps anything: the host keeps the description and the state that the last accepted call wrote.
+ * one net. No call keeps anything: the host keeps the description and the state that the last accepted call wrote. After
+ * an accepted `count` both are new, and belong together.
  *
- * Every call is total: it ends on every input, and bytes that are no description, no state or no event are refused.
+ * Every call is total: it ends on every input, and refuses what is no description, no state, no event or no head count.
  * An answer below 0 is a refusal, minus its number:
  *
  *      1  a stored number of the description is not complete, not in its shortest form or too large
@@ -18,20 +19,24 @@
  *     10  the event number is not one of the net's, which are counted from 1
  *     11  the event is impossible
  *     12  the event is possible, and some estimate after it would be above 65,535
- *     13  the result does not fit the output
+ *     13  a result does not fit its output
+ *     14  the list of places is empty, or a byte of it names no loose place, or one for the second time
+ *     15  the head count is below the sum of the estimates there, or above 65,535
+ *     16  the head count would make a 33rd group
  *
  * Of 1 to 8, the description's bytes are read forwards: the first fault that is met is answered, and of several at one
- * number the lowest. So the bytes 01 41 answer 3, for 65 places, though the number after them is missing. Then 9 to 13
- * follow in order. A call skips those that do not concern it.
+ * number the lowest. So the bytes 01 41 answer 3, for 65 places, though the number after them is missing. Then follow 9;
+ * of an event 10 to 12, of a head count 14 to 16; and 13 comes last. A call skips those that do not concern it.
  *
  * What the host owes:
- *   - All bytes below a length can be read (of `out`: and written), and nobody else writes them during the call. Where the
- *     length is 0 the pointer may be null.
- *   - `out` overlaps neither d nor s; but `record` reads all before it writes anything, so its `out` may be s itself: the
- *     same pointer, and the two lengths may differ.
+ *   - All bytes below a length can be read (of an output: and written), and nobody else writes them during the call. Where
+ *     the length is 0 the pointer may be null.
+ *   - An output overlaps no input and no other output; but `record` and `count` read all of s before they write anything,
+ *     so their `out` may be s itself: the same pointer, and the two lengths may differ. `described` may not be d itself: it
+ *     is copied from d piece by piece.
  *
  * What the host can count on:
- *   - A call writes nothing but the first bytes of `out`, as many as it answers; a refusal writes nothing.
+ *   - A call writes nothing but the first bytes of an output, as many as it answers; a refusal writes nothing.
  *   - Calls may run in several threads at a time, also on the same description and state, since no call keeps anything.
  *   - No call uses the heap, and none more than YARROWBEAM_LARGEST_STACK bytes of stack. (Where the dynamic linker finds
  *     memcpy or memset only when it is first called, the linker's own share comes on top of that once.)
@@ -69,6 +74,16 @@ int64_t judge(const uint8_t *d, size_t d_length, const uint8_t *s, size_t s_leng
 
 /* Is it known where all tokens are? Answers 1 for yes, 0 for no, or a refusal: 1 to 9. */
 int64_t known(const uint8_t *d, size_t d_length, const uint8_t *s, size_t s_length);
+
+/* Takes a head count while running: these loose places, one in a byte and in any order, hold n tokens together now. They
+ * become a new outermost group, with the next number. Writes the description with that group to `described` and the state
+ * to `out`; from then on these two are used, and a copy that was saved before is void. In the new description n is what was
+ * counted now, not at the start, so that `fresh` on it is not the state that goes on.
+ * Answers the bytes of the description times 2^32, plus the bytes of the state; or a refusal: 1 to 9, 13 to 16. If one output
+ * is too short (13), neither is written. */
+int64_t count(const uint8_t *d, size_t d_length, const uint8_t *s, size_t s_length,
+              const uint8_t *places, size_t places_length, uint32_t n,
+              uint8_t *described, size_t described_length, uint8_t *out, size_t out_length);
 
 #ifdef __cplusplus
 }

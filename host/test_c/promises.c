@@ -1,4 +1,4 @@
-/* What include/yarrowbeam.h promises beside the answers: the order of refusals, null pointers, recording in place, threads and
+/* What include/yarrowbeam.h promises beside the answers: the order of refusals, null pointers, writing in place, threads and
  * the stack. Prints what breaks a promise. WITHOUT_STACK is for builds that are watched, since watching takes stack too. */
 #define _XOPEN_SOURCE 700
 #include <inttypes.h>
@@ -7,6 +7,8 @@
 #include <stdio.h>
 #include <string.h>
 #include "yarrowbeam.h"
+
+enum { ROOM = YARROWBEAM_LARGEST_STATE, LONGEST = YARROWBEAM_LARGEST_DESCRIPTION };
 
 static int broken;
 
@@ -19,7 +21,7 @@ static void expect(const char *call, int64_t answer, int64_t expected) {
 /* Expects the answer of a call, which is printed as it stands here. */
 #define ANSWERS(call, expected) expect(#call, call, expected)
 
-/* ---- the nets: the pool of three, and one whose groups are nested as deep as can be */
+/* ---- the nets: the pool of three, and two whose groups are nested as deep as can be, without loose places and with some */
 
 typedef struct {
     uint8_t d[YARROWBEAM_LARGEST_DESCRIPTION];
@@ -42,24 +44,26 @@ static void put_all(Net *net, size_t count, const uint32_t *numbers) {
 
 #define PUT(net, ...) put_all(net, sizeof((uint32_t[]){__VA_ARGS__}) / sizeof(uint32_t), (uint32_t[]){__VA_ARGS__})
 
-/* The list of a group at this depth: eight places, and but for the innermost an empty group and a group as deep as can be. The
- * library takes more stack for a second group than for a first one. */
-static void put_list(Net *net, uint32_t depth) {
-    uint32_t places = depth == 0 ? 0 : 8;
-    put(net, places + (depth == 8 ? 0 : 2));
-    for (uint32_t p = 1; p <= places; p++) PUT(net, 0, 8 * (depth - 1) + p);
+/* The list of a group at this depth: eight places, and but for the innermost empty groups and a group as deep as can be. The
+ * library takes more stack for a second group than for a first one. Where places are loose, the eight of a list stand in the one
+ * around it, and there are 31 groups. */
+static void put_list(Net *net, uint32_t depth, uint32_t loose) {
+    uint32_t level = depth + loose, empty = depth == 0 && loose ? 16 : 1;
+    uint32_t places = level == 0 || level == 9 ? 0 : 8;
+    put(net, places + (depth == 8 ? 0 : empty + 1));
+    for (uint32_t p = 1; p <= places; p++) PUT(net, 0, 8 * (level - 1) + p);
     if (depth == 8) return;
-    PUT(net, 1, 0, 0);
-    PUT(net, 1, 200 * (8 - depth));
-    put_list(net, depth + 1);
+    for (uint32_t g = 0; g < empty; g++) PUT(net, 1, 0, 0);
+    PUT(net, 1, 200 * (8 - level));
+    put_list(net, depth + 1, loose);
 }
 
 /* 64 places; each event takes up to 3 from a place and gives 200 to the next one, so that states get longer; 16 limits. */
-static void make_deep(Net *net) {
+static void make_deep(Net *net, uint32_t loose) {
     net->length = 0;
     net->events = 64;
     PUT(net, 1, 64, 64, 16);
-    put_list(net, 0);
+    put_list(net, 0, loose);
     for (uint32_t e = 1; e < 64; e++) PUT(net, 2, e, 1 + e % 3, 0, e + 1, 0, 200);
     PUT(net, 2, 1, 0, 200, 64, 3, 0);
     for (uint32_t l = 1; l <= 16; l++) {
@@ -74,6 +78,25 @@ static void make_pool(Net *net) {
     net->events = 3;
 }
 
+/* Two loose places, an event without arcs, and so many groups without place or token. */
+static void make_empty(Net *net, uint32_t groups) {
+    net->length = 0;
+    net->events = 1;
+    PUT(net, 1, 2, 1, 0, groups + 2, 0, 1, 0, 2);
+    for (uint32_t g = 0; g < groups; g++) PUT(net, 1, 0, 0);
+    put(net, 0);
+}
+
+/* What count answers where it writes. */
+static int64_t wrote(size_t description, size_t state) { return (int64_t)description << 32 | (int64_t)state; }
+
+static int all_are(const uint8_t *bytes, size_t length, uint8_t value) {
+    for (size_t i = 0; i < length; i++) {
+        if (bytes[i] != value) return 0;
+    }
+    return 1;
+}
+
 /* Event numbers from 0 to one past the last, without a pattern. */
 static uint32_t event_at(const Net *net, uint32_t i) { return (i * 2654435761u >> 16) % (net->events + 2); }
 
@@ -86,6 +109,7 @@ static void order(void) {
     ANSWERS(record(sizes, 2, s, 0, 0, out, 0), -3);
     ANSWERS(judge(sizes, 2, s, 0, 0), -3);
     ANSWERS(known(sizes, 2, s, 0), -3);
+    ANSWERS(count(sizes, 2, s, 0, s, 0, 0, out, 0, out, 0), -3);
     /* place 0 after place 1: out of range, and out of order */
     memcpy(place, pool, sizeof pool);
     place[11] = 0;
@@ -94,6 +118,32 @@ static void order(void) {
     ANSWERS(record(pool, sizeof pool, s, 7, 0, out, 0), -10);
     s[6] = 0;
     ANSWERS(record(pool, sizeof pool, s, 7, 1, out, 0), -11);
+}
+
+/* Every choice of faults in a head count: the first question that fails is answered, and neither output is written. */
+static void order_of_count(void) {
+    enum { DESCRIPTION = 1, STATE = 2, LIST = 4, NUMBER = 8, GROUPS = 16, DESCRIBED = 32, OUT = 64, FAULTS = 128 };
+    static Net nets[2];
+    static const uint8_t good[] = {2, 1}, twice[] = {2, 1, 2};
+    make_empty(&nets[0], 31);
+    make_empty(&nets[1], 32);
+    for (int faults = 0; faults < FAULTS; faults++) {
+        const Net *net = &nets[faults & GROUPS ? 1 : 0];
+        uint8_t s[ROOM], described[200], out[ROOM];
+        size_t length = (size_t)fresh(net->d, net->length, s, sizeof s);
+        int64_t expected = faults & DESCRIPTION ? -1 : faults & STATE ? -9 : faults & LIST ? -14 : faults & NUMBER ? -15
+                         : faults & GROUPS ? -16 : faults ? -13 : wrote(net->length + 3, length + 1);
+        memset(described, 0xA5, sizeof described);
+        memset(out, 0xA5, sizeof out);
+        expect("count with faults",
+               count(net->d, net->length - (faults & DESCRIPTION ? 1 : 0), s, length - (faults & STATE ? 1 : 0),
+                     faults & LIST ? twice : good, faults & LIST ? 3 : 2, faults & NUMBER ? 65536 : 5,
+                     described, net->length + (faults & DESCRIBED ? 2 : 3), out, length + (faults & OUT ? 0 : 1)),
+               expected);
+        size_t rest = faults ? 0 : net->length + 3, rest_of_out = faults ? 0 : length + 1;
+        expect("count wrote too much", all_are(described + rest, sizeof described - rest, 0xA5), 1);
+        expect("count wrote too much of the state", all_are(out + rest_of_out, sizeof out - rest_of_out, 0xA5), 1);
+    }
 }
 
 /* ---- null pointers */
@@ -117,9 +167,26 @@ static void null_pointers(void) {
     ANSWERS(known(pool, sizeof pool, NULL, 0), -9);
 }
 
-/* ---- recording in place */
+/* The same of count, on the pool with its places loose, after event 1. */
+static void null_pointers_of_count(void) {
+    uint8_t d[36], described[39], out[7];
+    static const uint8_t s[] = {1, 3, 0, 1, 0, 0}, places[] = {3, 1, 2}, after[] = {1, 3, 0, 1, 0, 1, 2};
+    memcpy(d, pool, 4);
+    d[4] = 3;
+    memcpy(d + 5, pool + 8, 31);
+    ANSWERS(count(NULL, 0, NULL, 0, NULL, 0, 3, NULL, 0, NULL, 0), -1);
+    ANSWERS(count(NULL, 0, s, 6, places, 3, 3, described, 39, out, 7), -1);
+    ANSWERS(count(d, 36, NULL, 0, places, 3, 3, described, 39, out, 7), -9);
+    ANSWERS(count(d, 36, s, 6, NULL, 0, 3, described, 39, out, 7), -14);
+    ANSWERS(count(d, 36, s, 6, places, 3, 3, NULL, 0, out, 7), -13);
+    ANSWERS(count(d, 36, s, 6, places, 3, 3, described, 39, NULL, 0), -13);
+    ANSWERS(count(d, 36, s, 6, places, 3, 3, NULL, 0, NULL, 0), -13);
+    ANSWERS(count(d, 36, s, 6, places, 3, 3, described, 39, out, 7), wrote(39, 7));
+    expect("count, the description", memcmp(described, pool, 39), 0);
+    expect("count, the state", memcmp(out, after, 7), 0);
+}
 
-enum { ROOM = YARROWBEAM_LARGEST_STATE };
+/* ---- recording and counting in place */
 
 /* Records an event from s, of this length, to other bytes and to s itself, with this room: the same answer and the same bytes. */
 static int64_t record_twice(const Net *net, uint8_t s[ROOM], size_t length, uint32_t event, size_t room) {
@@ -130,6 +197,21 @@ static int64_t record_twice(const Net *net, uint8_t s[ROOM], size_t length, uint
     expect("record in place", record(net->d, net->length, s, length, event, s, room), answer);
     expect("record in place, other bytes", memcmp(s, expected, ROOM) != 0, 0);
     return answer;
+}
+
+/* Counts the place from s, of this length, so that its `out` is other bytes and s itself: the same answer and the same bytes. */
+static void count_twice(const Net *net, uint8_t s[ROOM], size_t length, uint8_t place, uint32_t n, size_t room) {
+    static uint8_t described[2][LONGEST];
+    uint8_t after[ROOM], expected[ROOM], in_place[ROOM];
+    memset(described, 0xA5, sizeof described);
+    memcpy(in_place, s, ROOM);
+    memcpy(expected, s, ROOM);
+    int64_t answer = count(net->d, net->length, s, length, &place, 1, n, described[0], LONGEST, after, room);
+    if (answer > 0) memcpy(expected, after, (size_t)(answer & UINT32_MAX));
+    int64_t second = count(net->d, net->length, in_place, length, &place, 1, n, described[1], LONGEST, in_place, room);
+    expect("count in place", second, answer);
+    expect("count in place, other bytes", memcmp(in_place, expected, ROOM) != 0, 0);
+    expect("count in place, another description", memcmp(described[0], described[1], LONGEST) != 0, 0);
 }
 
 static void in_place(const Net *net) {
@@ -143,6 +225,7 @@ static void in_place(const Net *net) {
         if (answer < 0) answer = record_twice(net, s, length, event, length);
         if (answer < 0) answer = record_twice(net, s, length, event, ROOM);
         if (answer > 0) length = (size_t)answer;
+        count_twice(net, s, length, (uint8_t)(1 + i % 8), 1000 * (i % 66), length + i % 4);
     }
 }
 
@@ -150,14 +233,15 @@ static void in_place(const Net *net) {
 
 enum { THREADS = 8, STEPS = 2000 };
 
-/* The walk of a thread over its own events: judges at the state that all threads share, and records at one of its own. */
+/* The walk of a thread over its own events: judges and counts at the state that all threads share, and records at one of its
+ * own. */
 typedef struct {
     const Net *net;
     const uint8_t *shared;
     size_t length;
     uint32_t start;
-    int64_t answers[STEPS][3];
-    uint8_t s[ROOM];
+    int64_t answers[STEPS][4];
+    uint8_t s[ROOM], counted[ROOM], described[LONGEST];
 } Walk;
 
 static pthread_barrier_t barrier;
@@ -165,6 +249,8 @@ static pthread_barrier_t barrier;
 static void walk(Walk *w) {
     const Net *net = w->net;
     memset(w->s, 0, ROOM);
+    memset(w->counted, 0, ROOM);
+    memset(w->described, 0, LONGEST);
     size_t length = (size_t)fresh(net->d, net->length, w->s, ROOM);
     for (uint32_t i = 0; i < STEPS; i++) {
         uint32_t event = event_at(net, w->start + i);
@@ -172,6 +258,9 @@ static void walk(Walk *w) {
         w->answers[i][1] = record(net->d, net->length, w->s, length, event, w->s, ROOM);
         if (w->answers[i][1] > 0) length = (size_t)w->answers[i][1];
         w->answers[i][2] = known(net->d, net->length, w->s, length);
+        uint8_t places[] = {(uint8_t)(1 + i % 8), (uint8_t)(1 + event % 8)};
+        w->answers[i][3] = count(net->d, net->length, w->shared, w->length, places, 2, w->start + i, w->described, LONGEST,
+                                 w->counted, ROOM);
     }
 }
 
@@ -197,6 +286,8 @@ static void threads(const Net *net) {
     for (int t = 0; t < THREADS; t++) {
         expect("answers in a thread", memcmp(together[t].answers, alone[t].answers, sizeof alone[t].answers) != 0, 0);
         expect("the state in a thread", memcmp(together[t].s, alone[t].s, ROOM) != 0, 0);
+        expect("the state counted in a thread", memcmp(together[t].counted, alone[t].counted, ROOM) != 0, 0);
+        expect("the description in a thread", memcmp(together[t].described, alone[t].described, LONGEST) != 0, 0);
     }
 }
 
@@ -221,6 +312,11 @@ static void call_record(void) {
 }
 static void call_judge(void) { judge(stack_net->d, stack_net->length, stack_state, stack_length, 2); }
 static void call_known(void) { known(stack_net->d, stack_net->length, stack_state, stack_length); }
+static void call_count(void) {
+    static const uint8_t places[] = {8, 7, 6, 5, 4, 3, 2, 1};
+    static uint8_t described[LONGEST], out[ROOM];
+    count(stack_net->d, stack_net->length, stack_state, stack_length, places, 8, 65535, described, LONGEST, out, ROOM);
+}
 
 static void (*stack_call)(void);
 
@@ -259,6 +355,7 @@ static void stacks(const Net *net) {
     stack_of("record", call_record);
     stack_of("judge", call_judge);
     stack_of("known", call_known);
+    stack_of("count", call_count);
 }
 
 #else
@@ -268,12 +365,15 @@ static void stacks(const Net *net) { (void)net; }
 #endif
 
 int main(void) {
-    static Net nets[2];
+    static Net nets[3];
     make_pool(&nets[0]);
-    make_deep(&nets[1]);
+    make_deep(&nets[1], 0);
+    make_deep(&nets[2], 1);
     order();
+    order_of_count();
     null_pointers();
-    for (int i = 0; i < 2; i++) {
+    null_pointers_of_count();
+    for (int i = 0; i < 3; i++) {
         uint8_t s[ROOM];
         expect("the net is good", fresh(nets[i].d, nets[i].length, s, ROOM) > 0, 1);
         in_place(&nets[i]);

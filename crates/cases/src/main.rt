@@ -1,6 +1,7 @@
 // Cases from standard input, each a call with its label: a line for each, with what the call
 // answers.
 mod calls;
+mod counts;
 mod descriptions;
 mod input;
 mod words;
@@ -25,6 +26,8 @@ const DESCRIBE: u32 = 5;
 
 const CHANGED: u32 = 6;
 
+const COUNT: u32 = 7;
+
 fn main() {
     // more than the list of cases has
     let mut space = [0u8; 131072];
@@ -43,32 +46,46 @@ fn cases(input: &[u8]) {
     }
 }
 
-// A label, a description and a state, each after its length, then the call, the event and the room;
-// the position after them, or the input's end if they are cut short.
+// A label, a description, a state and a list of places, each after its length, then the call, the
+// event and the rooms for a description and for a state; the position after them, or the input's end if
+// they are cut short.
 fn one_case(input: &[u8], at: usize) -> usize {
     let description = end_of(input, at);
     let state = end_of(input, description);
-    let at_call = end_of(input, state);
+    let places = end_of(input, state);
+    let at_call = end_of(input, places);
     let at_event = after(input, at_call);
-    let at_room = after(input, at_event);
+    let at_described = after(input, at_event);
+    let at_room = after(input, at_described);
     put(part(input, at));
     put(b":");
     answer(
         part(input, description),
         part(input, state),
+        part(input, places),
         number_at(input, at_call),
         number_at(input, at_event),
+        number_at(input, at_described) as usize,
         number_at(input, at_room) as usize,
     );
     put(b"\n");
     after(input, at_room)
 }
 
-// If a byte is changed, the event is its position.
-fn answer<'a>(d: &'a [u8], s: &'a [u8], call: u32, event: u32, room: usize) {
+// If a byte is changed, the event is its position; of a head count it is the number of tokens.
+fn answer<'a>(
+    d: &'a [u8],
+    s: &'a [u8],
+    places: &'a [u8],
+    call: u32,
+    event: u32,
+    described_room: usize,
+    room: usize,
+) {
     match call {
         DESCRIBE => descriptions::describe(d),
         CHANGED => descriptions::changed(d, event as usize),
+        COUNT => counts::answers(d, s, places, event, described_room, room),
         _ => calls::answers(d, s, call, event, room),
     }
 }

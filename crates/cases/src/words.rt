@@ -1,6 +1,7 @@
 // Answers in words, to standard output.
 use crate::input::first;
 use codec::Wrote;
+use codec::WroteBoth;
 use libc::STDOUT_FILENO;
 use net::Answer;
 use net::Known;
@@ -10,6 +11,18 @@ pub fn written(wrote: Wrote, out: &[u8]) {
     match wrote {
         Wrote::Bytes(count) => bytes(first(out, count)),
         Wrote::Refused(refusal) => refused(refusal),
+    }
+}
+
+// The description and the state.
+pub fn written_both<'a>(wrote: WroteBoth, described: &'a [u8], out: &'a [u8]) {
+    match wrote {
+        WroteBoth::Bytes(count, state_count) => {
+            bytes(first(described, count));
+            put(b",");
+            bytes(first(out, state_count));
+        }
+        WroteBoth::Refused(refusal) => refused(refusal),
     }
 }
 

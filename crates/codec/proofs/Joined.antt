@@ -9,6 +9,7 @@ use borrow.Author.Tests.{lt-ltb, le-ltb}
 use lib.ListN.{length, getD, replicate, length-append}
 use lib.Seq.{ext-getD}
 use lib.Dec.{ltb}
+use Rattle.theory.specs.Sums.{sum}
 use Rattle.codec.specs.Joined.{joined, listed, firstOf}
 
 -- ---- joined lists
@@ -17,6 +18,11 @@ pub joined-cong : {A : Type 0} (n : ℕ) {f g : ℕ → List A} → ((i : ℕ) �
 unfolding joined
 joined-cong zero e = refl
 joined-cong (suc n) e = cc (joined-cong n (λ i l. e i (omega arith)), e n (omega arith))
+
+pub joined-length : {A : Type 0} (n : ℕ) (f : ℕ → List A) → length (joined n f) ≡ sum n (λ i. length (f i))
+unfolding joined sum
+joined-length zero f = refl
+joined-length (suc n) f = simp length-append (omega (arith, joined-length n f))
 
 -- the first list apart from the others
 pub joined-first : {A : Type 0} (n : ℕ) (f : ℕ → List A) → joined (suc n) f ≡ f 0 ++ joined n (λ i. f (suc i))

@@ -5,4 +5,5 @@ pub mod Places
 pub mod Joined
 pub mod Walk
 pub mod Measured
+pub mod Both
 pub mod Longest

@@ -20,6 +20,13 @@ pub enum Wrote {
     Refused(u32),
 }
 
+// The answer of a call that writes a description and a state: the number of bytes of each, or its
+// refusal.
+pub enum WroteBoth {
+    Bytes(usize, usize),
+    Refused(u32),
+}
+
 // A byte as a number that can stand for a position.
 pub fn wide(byte: u8) -> usize
     ensures { λ r. ⌜ r ≡ byte ⌝ }

@@ -1,4 +1,4 @@
-// The numbers of the refusals: which of 01's "Questions put in turn" was answered no.
+// The numbers of the refusals: which of the "Questions put in turn" of 01 and 02 was answered no.
 
 // "Is each stored number complete, shortest and small enough?"
 pub const ILL_FORMED: u32 = 1;
@@ -26,3 +26,9 @@ pub const IMPOSSIBLE: u32 = 11;
 pub const OVER_RANGE: u32 = 12;
 // "Does the result fit the lent output?"
 pub const NO_ROOM: u32 = 13;
+// Does the list of a head count name loose places, each once, and at least one?
+pub const NOT_LOOSE: u32 = 14;
+// Is the head count at least the estimates there, and within the bound?
+pub const MISCOUNTED: u32 = 15;
+// Is there a group left for a head count?
+pub const NO_GROUP_LEFT: u32 = 16;

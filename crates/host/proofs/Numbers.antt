@@ -6,10 +6,12 @@ use lib.IntN.{pos}
 use Rattle.theory.proofs.Answers.{clash}
 use Rattle.codec.specs.declared.Wrote.{Wrote}
 use Rattle.codec.specs.declared.Wrote.the-variants as Wrote
+use Rattle.codec.specs.declared.WroteBoth.{WroteBoth}
+use Rattle.codec.specs.declared.WroteBoth.the-variants as WroteBoth
 use Rattle.net.specs.declared.Verdict.the-variants.{Allow, Hold}
 use Rattle.net.specs.declared.Answer.{Answer}
 use Rattle.net.specs.declared.Answer.the-variants.{Given, Refused}
-use Rattle.host.specs.Numbers.{refusalNumber, wroteNumber, answerNumber}
+use Rattle.host.specs.Numbers.{refusalNumber, wroteNumber, wroteBothNumber, answerNumber}
 
 -- a refusal
 refusal-back : (k n : ℕ) → refusalNumber k ≡ refusalNumber (suc n) → k ≡ suc n
@@ -19,6 +21,10 @@ refusal-back (suc k) n e = cc
 pub wrote-refused : (w : Wrote) (n : ℕ) → (wroteNumber w ≡ refusalNumber (suc n)) ↔ (w ≡ Wrote.Refused (suc n))
 wrote-refused (Wrote.Bytes k) n = ((λ e. clash (cc)), (λ e. clash (cc)))
 wrote-refused (Wrote.Refused k) n = ((λ e. ap Wrote.Refused (refusal-back k n e)), (λ e. ap wroteNumber e))
+
+pub both-refused : (w : WroteBoth) (n : ℕ) → (wroteBothNumber w ≡ refusalNumber (suc n)) ↔ (w ≡ WroteBoth.Refused (suc n))
+both-refused (WroteBoth.Bytes k m) n = ((λ e. clash (cc)), (λ e. clash (cc)))
+both-refused (WroteBoth.Refused k) n = ((λ e. ap WroteBoth.Refused (refusal-back k n e)), (λ e. ap wroteBothNumber e))
 
 pub judge-refused : (a : Answer) (n : ℕ) → (answerNumber a ≡ refusalNumber (suc n)) ↔ (a ≡ Refused (suc n))
 judge-refused (Given Allow) n = ((λ e. clash (cc)), (λ e. clash (cc)))

@@ -1,15 +1,16 @@
 // The host's functions: the observer's calls on bytes as C calls them (include/yarrowbeam.h). An
 // answer is one number: what 01 has for it, or minus the number of a refusal.
 use codec::Wrote;
+use codec::WroteBoth;
 use net::Answer;
 use net::Known;
 use net::Verdict;
 ghost use mathlib.Core.Path.{_≡_};
 ghost use lib.ListN.{length};
-ghost use Rattle.codec.specs.Output.{answer, left};
+ghost use Rattle.codec.specs.Output.{answer, left, bothAnswer, descriptionLeft, stateLeft};
 ghost use Rattle.net.specs.Answers.{answerOf, knownOf};
-ghost use Rattle.observer.specs.Bytes.{freshReply, recordReply, knownReply, judgeReply};
-ghost use Rattle.host.specs.Numbers.{Countable, refusalNumber, wroteNumber, answerNumber, knownNumber};
+ghost use Rattle.observer.specs.Bytes.{freshReply, recordReply, knownReply, judgeReply, countReply};
+ghost use Rattle.host.specs.Numbers.{Countable, BothCountable, refusalNumber, wroteNumber, wroteBothNumber, answerNumber, knownNumber};
 
 // Writes the fresh state of the net that the bytes describe, if it fits the output: the number of
 // bytes. A refusal writes nothing.
@@ -61,6 +62,26 @@ pub extern "C" fn known<'a>(d: &'a [u8], s: &'a [u8]) -> i64
     }
 }
 
+// A head count of the listed places, a byte for each: writes the description with one group more and
+// the state after it, if both fit their outputs: the number of bytes of the description times 2 ^ 32,
+// and that of the state. A refusal writes nothing.
+#[no_mangle]
+pub extern "C" fn count<'a>(
+    d: &'a [u8],
+    s: &'a [u8],
+    places: &'a [u8],
+    tokens: u32,
+    described: &mut [u8],
+    out: &mut [u8],
+) -> i64
+    ensures answer { λ r. ⌜ r ≡ wroteBothNumber (bothAnswer (length (now (described .entry))) (length (now (out .entry))) (countReply (now (d .entry)) (now (s .entry)) (now (places .entry)) tokens)) ⌝ }
+    ensures described { λ _. ⌜ now (described .exit) ≡ descriptionLeft (now (described .entry)) (now (out .entry)) (countReply (now (d .entry)) (now (s .entry)) (now (places .entry)) tokens) ⌝ }
+    ensures output { λ _. ⌜ now (out .exit) ≡ stateLeft (now (described .entry)) (now (out .entry)) (countReply (now (d .entry)) (now (s .entry)) (now (places .entry)) tokens) ⌝ }
+{
+    let wrote = observer::count(d, s, places, tokens, described, out);
+    both_number(wrote)
+}
+
 // What a call that writes answers, as the host gets it. A count is at most the length of the lent
 // output, which is below 2 ^ 63.
 fn wrote_number(wrote: Wrote) -> i64
@@ -70,6 +91,18 @@ fn wrote_number(wrote: Wrote) -> i64
     match wrote {
         Wrote::Bytes(count) => count as i64,
         Wrote::Refused(refusal) => refusal_number(refusal),
+    }
+}
+
+// What a head count answers, as the host gets it. No description and no state is so long that the
+// two counts do not fit one number.
+fn both_number(wrote: WroteBoth) -> i64
+    requires { ⌜ BothCountable wrote ⌝ }
+    ensures { λ r. ⌜ r ≡ wroteBothNumber wrote ⌝ }
+{
+    match wrote {
+        WroteBoth::Bytes(description, state) => (description * 4294967296 + state) as i64,
+        WroteBoth::Refused(refusal) => refusal_number(refusal),
     }
 }
 

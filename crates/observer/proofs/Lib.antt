@@ -3,3 +3,5 @@ pub mod Described
 pub mod Outlined
 pub mod OutlinedCalls
 pub mod OutlinedJudging
+pub mod OutlinedCounting
+pub mod Counted

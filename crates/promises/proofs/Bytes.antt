@@ -1,52 +1,47 @@
 -- The calls on bytes do what the theory's do: the bytes are those of the theory's state.
-use Prim.Native.Nat.{ℕ, suc, _-_, _<_}
-use mathlib.Core.Path.{_≡_, refl, sym, _∙_, subst}
-use mathlib.Core.Bool.{Bool, true, false}
+use Prim.Native.Nat.{ℕ, suc, _<_}
+use mathlib.Core.Path.{_≡_, refl, sym, ap, _∙_, subst}
+use mathlib.Core.Bool.{Bool, true, false, _&&_}
 use mathlib.Core.List.{List}
-use mathlib.Core.Logic.{_↔_, Iff·trans}
-use native.Mathlib.Omega.{arith}
+use mathlib.Core.Logic.{_↔_, _⊎_, Iff·trans}
 use lib.Dec.{leb}
 use lib.ListN.{length}
-use Rattle.theory.specs.Nets.{Net, Marking}
-use Rattle.theory.specs.Firing.{Same, Consistent}
-use Rattle.theory.specs.Recording.{State, Alike, Within, fresh, next, known, published}
+use Rattle.theory.specs.Nets.{Net, Groups, Marking, withGroups, recounted}
+use Rattle.theory.specs.Firing.{Same, Consistent, Countable}
+use Rattle.theory.specs.Recording.{State, Alike, Within, bound, next, afterCount, known, published}
 use Rattle.theory.proofs.Recording.{next-iff}
 use Rattle.theory.specs.Replies.{Reply, value, refusal, _>>=_, question}
-use Rattle.theory.specs.Answers.{recorded, judged, noRoom}
-use Rattle.theory.proofs.Answers.{clash, then-yes, record-yes}
-use Rattle.theory.proofs.Alike.{alike-sym, judge-alike, recorded-alike, within-alike}
+use Rattle.theory.specs.Answers.{recorded, judged, looseSet, headCounted, noRoom}
+use Rattle.theory.proofs.Answers.{clash, then-yes, then-no, question-yes, record-yes}
+use Rattle.theory.proofs.Alike.{alike-sym, judge-alike, recorded-alike, counted-alike, within-iff}
+use Rattle.theory.proofs.Counting.{loose-set, count-yes, within-count, countable-iff, miscounted-iff}
 use Rattle.theory.proofs.Known.{known-only}
 use Rattle.theory.proofs.Exact.{retold}
 use Rattle.theory.proofs.Exact as Exact
-use Rattle.theory.proofs.Faithful as Faithful
+use Rattle.theory.proofs.Faithful.{alike-demand-2, known-consistent}
 use Rattle.theory.specs.Calls.{Call}
 use Rattle.theory.specs.Demands.{Demand2, Demand3}
-use Rattle.theory.proofs.Lists.{Tied, both, neither, full, Ties, Kept, kept-standing, tied-told, safe-standing}
+use Rattle.theory.proofs.Lists.{Tied, neither, full, Ties, Kept, kept-standing, tied-told, safe-standing}
 use Rattle.theory.proofs.Lists as Lists
-use Rattle.theory.proofs.Fitting.{Fitting}
-use Rattle.codec.specs.Reader.{ok, read}
-use Rattle.codec.proofs.Inverse.{read-ok}
-use Rattle.codec.specs.Output.{fitting, answer}
+use Rattle.theory.proofs.Fitting.{Good, Fitting}
+use Rattle.codec.specs.Reader.{Result, ok, read}
+use Rattle.codec.specs.Output.{fitting, answer, Pair, bothFitting, bothAnswer}
+use Rattle.codec.specs.declared.WroteBoth.the-variants as WroteBoth
 use Rattle.net.specs.Answers.{answerOf}
-use Rattle.net.proofs.Check.{no-place}
-use Rattle.description.specs.Grammar.{Parts, parts, netFrom}
+use Rattle.net.proofs.Recounted.{loose-list}
+use Rattle.description.specs.Grammar.{Parts, parts, netFrom, recountedParts}
+use Rattle.description.specs.Writing.{netBytes}
+use Rattle.description.proofs.Recounted.{recounted-view, parts-recounted}
 use Rattle.states.specs.States.Writing.{Fit}
-use Rattle.states.proofs.Inverse.{state-forth, state-back}
-use Rattle.states.specs.States.Nets.{saved, restored}
-use Rattle.states.proofs.Nets.{saved-alike, fit-next, fit-fresh}
-use Rattle.observer.specs.Bytes.{netIn, described, stateIn, freshReply, recordReply, judgeReply, knownReply}
-use Rattle.observer.proofs.Described.{fine, good}
-use Rattle.promises.specs.Lists.{onBytes, host}
-use Rattle.promises.specs.Promises.{onBytesTold, estimateAfter, ListsOnBytes, Leaves, StateOnBytes}
-use Rattle.promises.proofs.Told.{bytes-told, in-numbers}
-
--- a state in bytes fits
-pub fit-fitting : (net : Net) {s : State} → Fit (net .places) (net .groups) s → Fitting net s
-fit-fitting net fit =
-    record {
-      ordered = λ i l. omega (arith, fit .exact i l);
-      empty = λ i l none. fit .empty i l (no-place (net .places) (net .groups .home) (suc i) none);
-    }
+use Rattle.states.specs.States.Nets.{saved}
+use Rattle.states.proofs.Nets.{saved-alike, fit-fitting, fit-next, fit-fresh, fit-count}
+use Rattle.observer.specs.Bytes.{netIn, described, stateIn, freshReply, recordReply, judgeReply, knownReply, countReply}
+use Rattle.observer.proofs.Described.{good}
+use Rattle.promises.specs.Lists.{withState, onBytes, host, keptDescription, keptState}
+use Rattle.host.proofs.Numbers.{both-refused}
+use Rattle.promises.specs.Promises.{onBytesTold, estimateAfter, ListsOnBytes, Leaves, Recounts, StateOnBytes}
+use Rattle.promises.proofs.Told.{both-iff, bytes-told, in-numbers}
+use Rattle.promises.proofs.Described.{of-described, Fine, fine-net, BytesOf, read-back, read-are}
 
 -- recording leaves a state that fits
 pub recorded-fit : (net : Net) {s t : State} (number : ℕ) → Fit (net .places) (net .groups) s → recorded net s number ≡ value t
@@ -55,157 +50,242 @@ recorded-fit net {s} {t} number fit u =
     let found = record-yes net s number t u in
     rw (found .2) (fit-next net (found .0) fit (found .1 .range))
 
--- these are the bytes of a state that fits
-pub record BytesOf (net : Net) (b : List ℕ) (s : State) : Type 0 where
-  pub are : b ≡ saved net s
-  pub fit : Fit (net .places) (net .groups) s
+-- these are a description of the net and the bytes of a state of it
+record PairOf (net : Net) (pair : Pair) (s : State) : Type 0 where
+  net-is : described (pair .description) ≡ value net
+  state-is : BytesOf net (pair .state) s
 
-module _ (d left : List ℕ) (x : Parts) (e : parts d ≡ ok x left) where
-  abbrev net : Net
-  net = netIn x
+-- a description and a state
+abbrev both : List ℕ → List ℕ → Pair
+both d b = record { description = d; state = b }
 
-  -- ---- a description that was read
+module _ (d : List ℕ) (net : Net) (says : described d ≡ value net) (b : List ℕ) (s : State) (bytes : BytesOf net b s) where
+  -- ---- recording and judging
 
-  record-described : (b : List ℕ) (number : ℕ)
-      → recordReply d b number ≡ (stateIn net b >>= λ s. recorded net s number >>= λ t. value (saved net t))
+  recorded-is : (number : ℕ) → recordReply d b number ≡ (recorded net s number >>= λ t. value (saved net t))
   unfolding recordReply
-  record-described b number = rw e
+  recorded-is number =
+      let back = read-back d net says b s bytes in
+      rw (says, back .1) (sym (recorded-alike net (back .2) (saved net) (λ t u. saved-alike net) number))
 
-  judge-described : (b : List ℕ) (number : ℕ) → judgeReply d b number ≡ (stateIn net b >>= λ s. judged net s number)
+  judged-is : (number : ℕ) → judgeReply d b number ≡ judged net s number
   unfolding judgeReply
-  judge-described b number = rw e
+  judged-is number =
+      let back = read-back d net says b s bytes in
+      rw (says, back .1) (sym (judge-alike net (back .2) number))
 
-  known-described : (b : List ℕ) → knownReply d b ≡ (stateIn net b >>= λ s. value (known net s))
-  unfolding knownReply
-  known-described b = rw e
-
-  fresh-described : freshReply d ≡ value (saved net (fresh net))
-  unfolding freshReply
-  fresh-described = rw e
-
-  -- ---- bytes of states
-
-  -- the bytes are read back as a state that is the same at the net's places and groups
-  pub read-back : (b : List ℕ) (s : State) → BytesOf net b s → (t : State) × (stateIn net b ≡ value t) × Alike net s t
-  unfolding netFrom
-  read-back b s of =
-      let back = state-forth net (good d left x e .outward) s (omega (arith, fine d left x e .sized .places)) (omega (arith, fine d left x e .sized .groups)) (of .fit) in
-      (back .0, rw (of .are, back .1), back .2)
-
-  -- what is read as a state are its bytes
-  pub read-are : (b : List ℕ) (s : State) → stateIn net b ≡ value s → BytesOf net b s
-  read-are b s r =
-      let was = read-ok (restored net b) r in
-      let back = state-back net (good d left x e .outward) b (was .0) s (was .1) in
-      record { are = back .are; fit = back .fit }
-
-  recorded-is : (b : List ℕ) (s : State) → BytesOf net b s → (number : ℕ) → recordReply d b number ≡ (recorded net s number >>= λ t. value (saved net t))
-  recorded-is b s of number =
-      let back = read-back b s of in
-      record-described b number ∙ rw (back .1) (sym (recorded-alike net (back .2) (saved net) (λ t u. saved-alike net) number))
-
-  pub judged-is : (b : List ℕ) (s : State) → BytesOf net b s → (number : ℕ) → judgeReply d b number ≡ judged net s number
-  judged-is b s of number =
-      let back = read-back b s of in
-      judge-described b number ∙ rw (back .1) (sym (judge-alike net (back .2) number))
-
-  -- recording leaves the bytes of the theory's next state, where there is room for them
-  record-tied : (b : List ℕ) (s : State) → BytesOf net b s → (number room : ℕ) → Tied (BytesOf net) (fitting room (recordReply d b number)) (recorded net s number)
-  record-tied b s of number room = rw (recorded-is b s of number) (go (recorded net s number) refl)
+  -- recording leaves the description, and the bytes of the theory's next state, where there is room for them
+  record-tied : (number room : ℕ)
+      → Tied (PairOf net) (fitting room (recordReply d b number) >>= λ after. value (both d after)) (recorded net s number)
+  record-tied number room = rw (recorded-is number) (go (recorded net s number) refl)
     where
       enough : (t : State) → Fit (net .places) (net .groups) t → (some : Bool)
-          → Tied (BytesOf net) (question some noRoom >>= λ _. value (saved net t)) (value t)
-      enough t fit true = both _ _ (record { are = refl; fit = fit })
+          → Tied (PairOf net) ((question some noRoom >>= λ _. value (saved net t)) >>= λ after. value (both d after)) (value t)
+      enough t fit true = Lists.both _ _ (record { net-is = says; state-is = record { are = refl; fit = fit } })
       enough t fit false = full t
 
-      go : (r : Reply State) → recorded net s number ≡ r → Tied (BytesOf net) (fitting room (r >>= λ t. value (saved net t))) r
+      go : (r : Reply State) → recorded net s number ≡ r
+          → Tied (PairOf net) (fitting room (r >>= λ t. value (saved net t)) >>= λ after. value (both d after)) r
       go (refusal n) u = neither n
-      go (value t) u = enough t (recorded-fit net number (of .fit) u) (leb (length (saved net t)) room)
+      go (value t) u = enough t (recorded-fit net number (bytes .fit) u) (leb (length (saved net t)) room)
 
-  -- the calls on bytes are tied to the theory's
-  pub ties : Ties net (onBytes d) (BytesOf net)
-  unfolding netFrom
-  ties =
+-- ---- head counts
+
+-- a head count answers as the theory's does, with what it leaves for the theory's state
+record Counts (net : Net) (s : State) (list : List ℕ) (n : ℕ) (reply : Reply Pair) : Type 0 where
+  pair : State → Pair
+  is : reply ≡ (headCounted net s list n >>= λ t. value (pair t))
+  leaves : (t : State) → headCounted net s list n ≡ value t → PairOf (recounted net list n) (pair t) t
+
+counted-is : (d : List ℕ) (net : Net) → described d ≡ value net → (b : List ℕ) (s : State) → BytesOf net b s → (list : List ℕ) (n : ℕ)
+    → Counts net s list n (countReply d b list n)
+unfolding countReply
+counted-is d =
+    of-described d (λ net. (b : List ℕ) (s : State) → BytesOf net b s → (list : List ℕ) (n : ℕ) → Counts net s list n (countReply d b list n)) each
+  where
+    each : (left : List ℕ) (x : Parts) → parts d ≡ ok x left → (b : List ℕ) (s : State) → BytesOf (netIn x) b s → (list : List ℕ) (n : ℕ)
+        → Counts (netIn x) s list n (countReply d b list n)
+    each left x e b s bytes list n =
+        let net : Net = netIn x in
+        let later : Net = recounted net list n in
+        let description : List ℕ = netBytes (netFrom (recountedParts x list n)) in
+        let back = read-back d net (rw e) b s bytes in
+        record {
+          pair = λ t. both description (saved later t);
+          is =
+              rw (e, back .1)
+              (sym (counted-alike net (back .2) list n (λ t. both description (saved later t)) (λ t u a. ap (both description) (saved-alike later a))));
+          leaves = λ t u.
+              let found = count-yes net s list n t u in
+              let count = found .0 in
+              let loose = loose-list net list (count .loose) in
+              record {
+                net-is =
+                    ap (λ (r : Result Parts). read r >>= λ y. value (netIn y)) (parts-recounted d left x e list n loose (count .room) (count .range))
+                    ∙ ap (λ (groups : Groups). value (withGroups net groups)) (recounted-view d left x e list n loose (count .room));
+                state-is = record { are = refl; fit = rw (found .1) (fit-count net (good d left x e) list n count (bytes .fit)) };
+              };
+        }
+
+-- an accepted one leaves a description and a state for the theory's state
+counted-left : (d : List ℕ) (net : Net) → described d ≡ value net → (b : List ℕ) (s : State) → BytesOf net b s
+    → (list : List ℕ) (n : ℕ) (after : Pair) → countReply d b list n ≡ value after
+    → (t : State) × (headCounted net s list n ≡ value t) × PairOf (recounted net list n) after t
+counted-left d net says b s bytes list n after u =
+    let counts = counted-is d net says b s bytes list n in
+    let found = then-yes (counts .pair) (headCounted net s list n) after (sym (counts .is) ∙ u) in
+    let left = counts .leaves (found .0) (found .1) in
+    (found .0, found .1, subst (λ (pair : Pair). PairOf (recounted net list n) pair (found .0)) (sym (found .2)) left)
+
+-- ---- at any state
+
+module _ (d : List ℕ) (net : Net) (says : described d ≡ value net) (b : List ℕ) (s : State) (r : stateIn net b ≡ value s) where
+  bytes : BytesOf net b s
+  bytes = read-are d net says b s r
+
+  net-good : Good net
+  net-good = fine-net d net says .good
+
+  state-fits : Fitting net s
+  state-fits = fit-fitting net (bytes .fit)
+
+  state-demand-3 : (room number : ℕ) → number < net .rules .events
+      → Demand3 onBytesTold net (Within net s) (next net s number .estimate) number
+      (answer room (recordReply d b (suc number))) (answerOf (judgeReply d b (suc number)))
+  state-demand-3 room number l =
+      retold (bytes-told (both d) (fitting room (recordReply d b (suc number))) (judgeReply d b (suc number)))
+      (retold (tied-told (record-tied d net says b s bytes (suc number) room) (judged-is d net says b s bytes (suc number)))
+      (Exact.demand-3 net net-good s (Within net s) (record { fitting = state-fits; sound = λ m w. w; complete = λ m w. w })
+      (next net s number .estimate) number (λ t p q. refl) l))
+
+  state-recorded : (number : ℕ) (after : List ℕ) → recordReply d b number ≡ value after
+      → (t : State) × (stateIn net after ≡ value t) × Leaves net s number t
+  state-recorded number after u =
+      let left = then-yes (saved net) (recorded net s number) after (sym (recorded-is d net says b s bytes number) ∙ u) in
+      let found = record-yes net s number (left .0) (left .1) in
+      let back = read-back d net says after (left .0) (record { are = left .2; fit = recorded-fit net number (bytes .fit) (left .1) }) in
+      let alike : Alike net (back .0) (next net s (found .0))
+      = subst (λ (z : State). Alike net (back .0) z) (found .2) (alike-sym net (back .2)) in (
+        back .0,
+        back .1,
+        record {
+          event = found .0;
+          numbered = found .1 .index;
+          next = alike;
+          consistent = λ m. Iff·trans (within-iff net alike m) (next-iff net s (found .0) (found .1 .can) m);
+        },
+      )
+
+  state-known : knownReply d b ≡ value true → (m : Marking) → Within net s m ↔ Same net (s .estimate) m
+  unfolding knownReply
+  state-known u =
+      let yes : known net s ≡ true = (let v : value (known net s) ≡ value true = rw (says, r) at u in cc) in
+      known-only net net-good s state-fits yes
+
+  state-counted : (list : List ℕ) (n : ℕ) (after : Pair) → countReply d b list n ≡ value after → Recounts net s list n after
+  state-counted list n after u =
+      let left = counted-left d net says b s bytes list n after u in
+      let found = count-yes net s list n (left .0) (left .1) in
+      let later : Net = recounted net list n in
+      let back = read-back (after .description) later (left .2 .net-is) (after .state) (left .0) (left .2 .state-is) in
+      let alike : Alike later (back .0) (afterCount net s list n)
+      = subst (λ (z : State). Alike later (back .0) z) (found .1) (alike-sym later (back .2)) in
       record {
-        begins = rw fresh-described (record {
-          are = refl;
-          fit = fit-fresh net (good d left x e) (λ i l. rw (let here : suc i - 1 ≡ i = omega arith in here) (fine d left x e .members .tables .counts-fit i l));
-        });
-        records = record-tied;
-        judges = judged-is;
-        restores = λ b s of. record { state = b; read = refl; tied = of };
+        net-after = left .2 .net-is;
+        state = back .0;
+        state-after = back .1;
+        counted = alike;
+        consistent = λ m. Iff·trans (within-iff later alike m) (within-count net net-good s list n (found .0 .set) (found .0 .enough) m);
       }
 
-  -- ---- at any state
+  state-miscounted : (list : List ℕ) (n described room : ℕ) → looseSet net list ≡ true
+      → (bothAnswer described room (countReply d b list n) ≡ WroteBoth.Refused 15) ↔ ((bound < n) ⊎ (Countable net (Within net s) list n → ⊥))
+  state-miscounted list n described room loose =
+      let counts = counted-is d net says b s bytes list n in
+      Iff·trans (both-iff (countReply d b list n) described room)
+      (rw (counts .is) (Iff·trans (then-no (counts .pair) (headCounted net s list n) 15) (miscounted-iff net net-good s state-fits list n loose)))
 
-  module _ (b : List ℕ) (s : State) (r : stateIn net b ≡ value s) where
-    here : BytesOf net b s
-    here = read-are b s r
+  pub state-on-bytes : StateOnBytes d net b s
+  state-on-bytes =
+      record {
+        demand-3 = state-demand-3;
+        recorded = state-recorded;
+        known = state-known;
+        counted = state-counted;
+        countable = λ list n loose. countable-iff net net-good s list n (loose-set net list loose) state-fits;
+        miscounted = state-miscounted;
+        miscounted-host = λ list n described room loose.
+            Iff·trans (both-refused (bothAnswer described room (countReply d b list n)) 14) (state-miscounted list n described room loose);
+      }
 
-    state-demand-3 : (room number : ℕ) → number < net .rules .events
-        → Demand3 onBytesTold net (Within net s) (next net s number .estimate) number (answer room (recordReply d b (suc number))) (answerOf (judgeReply d b (suc number)))
-    state-demand-3 room number l =
-        retold (bytes-told (fitting room (recordReply d b (suc number))) (judgeReply d b (suc number)))
-        (retold (tied-told (record-tied b s here (suc number) room) (judged-is b s here (suc number)))
-        (Exact.demand-3 net (good d left x e) s (Within net s)
-        (record { fitting = fit-fitting net (here .fit); sound = λ m w. w; complete = λ m w. w })
-        (next net s number .estimate) number (λ t p q. refl) l))
+-- ---- after a list
 
-    state-recorded : (number : ℕ) (after : List ℕ) → recordReply d b number ≡ value after → (t : State) × (stateIn net after ≡ value t) × Leaves net s number t
-    state-recorded number after u = go (recorded net s number) refl (sym (recorded-is b s here number) ∙ u)
-      where
-        go : (r : Reply State) → recorded net s number ≡ r → (r >>= λ t. value (saved net t)) ≡ value after
-            → (t : State) × (stateIn net after ≡ value t) × Leaves net s number t
-        go (refusal n) v w = clash (cc)
-        go (value t) v w =
-            let found = record-yes net s number t v in
-            let same : saved net t ≡ after = cc in
-            let back = read-back after t (record { are = sym same; fit = recorded-fit net number (here .fit) v }) in
-            let alike : Alike net (back .0) (next net s (found .0)) = subst (λ (z : State). Alike net (back .0) z) (found .2) (alike-sym net (back .2)) in (
-              back .0,
-              back .1,
-              record {
-                event = found .0;
-                numbered = found .1 .index;
-                next = alike;
-                consistent = λ m. Iff·trans
-                    (within-alike net alike m, within-alike net (alike-sym net alike) m)
-                    (next-iff net s (found .0) (found .1 .can) m);
-              },
-            )
+-- what fits both outputs is what the reply has
+both-fit : (described room : ℕ) (r : Reply Pair) (pair : Pair) → bothFitting described room r ≡ value pair → r ≡ value pair
+both-fit described room (value p) pair e = question-yes (leb (length (p .description)) described && leb (length (p .state)) room) noRoom e .1
+both-fit described room (refusal n) pair e = clash (cc)
 
-    state-known : knownReply d b ≡ value true → (m : Marking) → Within net s m ↔ Same net (s .estimate) m
-    state-known u =
-        let yes : known net s ≡ true = (let v : value (known net s) ≡ value true = sym (known-described b ∙ rw r) ∙ u in cc) in
-        known-only net (good d left x e) s (fit-fitting net (here .fit)) yes
+module _ (d : List ℕ) (net : Net) (says : described d ≡ value net) where
+  -- what is kept are a description of the net with these groups and a state of it
+  abbrev Paired : Pair → Groups → State → Type 0
+  Paired pair groups s = PairOf (withGroups net groups) pair s
 
-    pub state-on-bytes : StateOnBytes d net b s
-    state-on-bytes = record { demand-3 = state-demand-3; recorded = state-recorded; known = state-known }
+  begun : Fine net
+  begun = fine-net d net says
 
-  -- ---- after a list
+  -- the calls on bytes are tied to the theory's
+  ties : Ties net (onBytes d) Paired
+  unfolding freshReply
+  ties =
+      record {
+        begins = record { net-is = says; state-is = record { are = rw says; fit = fit-fresh net (begun .good) (begun .counts) } };
+        records = λ pair groups s tied. record-tied (pair .description) (withGroups net groups) (tied .net-is) (pair .state) s (tied .state-is);
+        judges = λ pair groups s tied. judged-is (pair .description) (withGroups net groups) (tied .net-is) (pair .state) s (tied .state-is);
+        counts = λ pair groups s tied list n described room later u.
+            counted-left (pair .description) (withGroups net groups) (tied .net-is) (pair .state) s (tied .state-is) list n later
+            (both-fit described room (countReply (pair .description) (pair .state) list n) later u);
+        restores = λ pair now groups s tied there. record {
+          state = withState now (pair .state);
+          read = refl;
+          tied = record { net-is = there .net-is; state-is = tied .state-is };
+        };
+      }
 
   module _ (list : List Call) where
-    kept : Kept net (onBytes d) (BytesOf net) (host d list)
-    kept = kept-standing (good d left x e) ties list
+    kept : Kept net (onBytes d) Paired (host d list)
+    kept = kept-standing (begun .good) ties list
 
-    list-demand-2 : (s : State) × (stateIn net (host d list .state) ≡ value s) × Demand2 net (host d list .deeds) s
-    list-demand-2 =
-        let back = read-back (host d list .state) (kept .state) (kept .tied) in
-        (back .0, back .1, Faithful.alike-demand-2 net (good d left x e) (kept .state) (host d list .deeds) (kept .faithful) (back .0) (alike-sym net (back .2)))
+    abbrev now : Net
+    now = withGroups net (kept .groups)
 
-    pub list-demand-3 : (room number : ℕ) → number < net .rules .events
+    found : (s : State) × (stateIn now (keptState d list) ≡ value s) × Alike now (kept .state) s
+    found = read-back (keptDescription d list) now (kept .tied .net-is) (keptState d list) (kept .state) (kept .tied .state-is)
+
+    list-demand-2 : (now : Net) × (described (keptDescription d list) ≡ value now)
+        × (s : State) × (stateIn now (keptState d list) ≡ value s) × Demand2 net (host d list .deeds) now s
+    list-demand-2 = (
+      now,
+      kept .tied .net-is,
+      found .0,
+      found .1,
+      alike-demand-2 net (kept .groups) (kept .state) (host d list .deeds) (kept .faithful) (found .0) (alike-sym now (found .2)),
+    )
+
+    list-demand-3 : (room number : ℕ) → number < net .rules .events
         → Demand3 onBytesTold net (Consistent net (host d list .deeds)) (estimateAfter net (host d list .deeds) number) number
-        (answer room (recordReply d (host d list .state) (suc number))) (answerOf (judgeReply d (host d list .state) (suc number)))
+        (answer room (recordReply (keptDescription d list) (keptState d list) (suc number)))
+        (answerOf (judgeReply (keptDescription d list) (keptState d list) (suc number)))
     list-demand-3 room number l =
-        retold (bytes-told (fitting room (recordReply d (host d list .state) (suc number))) (judgeReply d (host d list .state) (suc number)))
-        (Lists.demand-3 (good d left x e) ties (host d list) kept room number l)
+        retold
+        (bytes-told (withState (host d list .state)) (fitting room (recordReply (keptDescription d list) (keptState d list) (suc number)))
+        (judgeReply (keptDescription d list) (keptState d list) (suc number)))
+        (Lists.demand-3 (begun .good) ties (host d list) kept room number l)
 
-    list-known : knownReply d (host d list .state) ≡ value true
+    list-known : knownReply (keptDescription d list) (keptState d list) ≡ value true
         → (m : Marking) → Consistent net (host d list .deeds) m ↔ Same net (published net (host d list .deeds) .estimate) m
     list-known u m =
-        let back = read-back (host d list .state) (kept .state) (kept .tied) in
-        let only = state-known (host d list .state) (back .0) (back .1) u m in
-        Faithful.known-consistent net (good d left x e) (kept .state) (host d list .deeds) (kept .faithful) (back .0) (alike-sym net (back .2)) m only
+        let only = state-known (keptDescription d list) now (kept .tied .net-is) (keptState d list) (found .0) (found .1) u m in
+        known-consistent net (kept .groups) (kept .state) (host d list .deeds) (kept .faithful) (found .0) (alike-sym now (found .2)) m only
 
     pub list-on-bytes : ListsOnBytes d net list
     list-on-bytes =
@@ -214,22 +294,5 @@ module _ (d left : List ℕ) (x : Parts) (e : parts d ≡ ok x left) where
           demand-3 = list-demand-3;
           demand-3-host = λ room number l. in-numbers (list-demand-3 room number l);
           known = list-known;
-          stays = safe-standing (good d left x e) ties list;
+          stays = safe-standing (begun .good) ties list;
         }
-
--- ---- of a net that is described
-
--- what holds of all that a description says holds of the net that is described
-pub of-described : (d : List ℕ) (P : Net → Type 0) → ((left : List ℕ) (x : Parts) → parts d ≡ ok x left → P (netIn x))
-    → (net : Net) → described d ≡ value net → P net
-of-described d P each net u =
-    let found = then-yes netIn (read (parts d)) net u in
-    let was = read-ok (parts d) (found .1) in
-    subst P (sym (found .2)) (each (was .0) (found .0) (was .1))
-
-pub lists-on-bytes : (d : List ℕ) (net : Net) → described d ≡ value net → (list : List Call) → ListsOnBytes d net list
-lists-on-bytes d = of-described d (λ net. (list : List Call) → ListsOnBytes d net list) (list-on-bytes d)
-
-pub states-on-bytes : (d : List ℕ) (net : Net) → described d ≡ value net → (b : List ℕ) (s : State) → stateIn net b ≡ value s → StateOnBytes d net b s
-states-on-bytes d =
-    of-described d (λ net. (b : List ℕ) (s : State) → stateIn net b ≡ value s → StateOnBytes d net b s) (state-on-bytes d)

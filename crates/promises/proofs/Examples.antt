@@ -1,37 +1,42 @@
--- The ten proved cases of 01 ("The pool of three"), over the definitions that the contracts cite.
+-- The ten proved cases of 01 ("The pool of three"), and one of a head count (02, (i)), over the definitions that the contracts cite.
 use Prim.Native.Nat.{ℕ}
 use mathlib.Core.Path.{_≡_, refl}
 use mathlib.Core.List.{List, [], _∷_, map}
 use lib.IntN.{negsuc}
 use Rattle.theory.specs.Sums.{sum, sumℤ, every, direct}
-use Rattle.theory.specs.Nets.{inside, among, own, inner, gathered, less, share}
+use Rattle.theory.specs.Nets.{inside, among, own, inner, gathered, less, share, names, listedSum, grouped}
 use Rattle.theory.specs.Placement.{heaviestPlace}
-use Rattle.theory.specs.Recording.{fresh, raise, raises, moved, possible, next, inRange, unplaced, known}
+use Rattle.theory.specs.Recording.{fresh, raise, raises, moved, possible, next, afterCount, inRange, unplaced, known}
 use Rattle.theory.specs.Judging.{limitSum, change, heaviest, amount, top, holds}
 use Rattle.theory.specs.Replies.{Reply, value, refusal}
-use Rattle.theory.specs.Answers.{ask, Verdict, allow, hold, lowest, recorded, judged}
-use Rattle.theory.specs.Calls.{recording, begin, call, standingFrom, standing}
+use Rattle.theory.specs.Answers.{ask, Verdict, allow, hold, lowest, recorded, judged, eachLoose, headCounted}
+use Rattle.theory.specs.Calls.{recording, counting, begin, call, standingFrom, standing}
 use Rattle.numbers.specs.Number.{form, groups}
 use Rattle.numbers.specs.Number as Stored
 use Rattle.numbers.specs.Signed.{stored, signed}
 use Rattle.codec.specs.Reader.{Result, no, number, many, end}
+use Rattle.codec.specs.Output.{Pair}
 use Rattle.codec.specs.Joined.{joined}
 use mathlib.Core.Bool.{Bool, true}
+use Rattle.net.specs.View.{rehomed}
 use Rattle.net.specs.Check.{shared, shareFits, hasPlace}
 use Rattle.members.specs.Members.{place, innerGroups, members, memberList, group, outermost}
+use Rattle.members.specs.Members.Writing.{memberBytes, headBytes, groupBytes, placeBytes, listLength}
 use Rattle.codec.specs.Places.{risingPlace}
 use Rattle.rows.specs.Rows.{entries, row, filled, arc, event, signedWithin, term, limit}
-use Rattle.description.specs.Grammar.{head, limitsToEnd, parts}
+use Rattle.rows.specs.Rows.Writing.{rowBytes, eventBytes}
+use Rattle.description.specs.Grammar.{table, head, limitsToEnd, parts, netFrom}
+use Rattle.description.specs.Writing.{netBytes}
 use Rattle.description.proofs.Examples.{poolBytes}
 use Rattle.states.specs.States as States
 use Rattle.states.specs.States.{countedValues, saved, stateFrom, state}
 use Rattle.states.specs.States.Writing.{valuesBytes, stateBytes}
-use Rattle.observer.specs.Bytes.{freshReply, recordReply, judgeReply, knownReply}
-use Rattle.promises.specs.Lists.{host}
+use Rattle.observer.specs.Bytes.{freshReply, recordReply, judgeReply, knownReply, countReply}
+use Rattle.promises.specs.Lists.{host, keptState}
 
 -- the state's bytes after these events are recorded, one after the other; each state takes seven bytes
 abbrev pub after : List ℕ → List ℕ
-after numbers = host poolBytes (map (λ n. recording n 7) numbers) .state
+after numbers = keptState poolBytes (map (λ n. recording n 7) numbers)
 
 -- ---- cases
 
@@ -76,3 +81,31 @@ unfolding cases poolBytes form groups stored number Stored.number Stored.front S
     ask recorded judged lowest holds fresh share less inner possible raises raise own direct sum every next moved inRange change sumℤ heaviest heaviestPlace
     top limitSum amount known unplaced gathered among inside
 cases-hold = refl
+
+-- ---- a head count
+
+-- three loose places; event 1 moves a token from place 1 to 2; no limit
+unfoldable pub looseBytes : List ℕ
+looseBytes =
+    0x01 ∷ 0x03 ∷ 0x01 ∷ 0x00 ∷ 0x03 ∷ 0x00 ∷ 0x01 ∷ 0x00 ∷ 0x02 ∷ 0x00 ∷ 0x03 ∷ 0x02 ∷ 0x01 ∷ 0x01 ∷ 0x00 ∷ 0x02 ∷ 0x00 ∷ 0x01 ∷ []
+
+-- event 1 leaves one token in place 2. Then places 3 and 2 have four: the outermost list is place 1 and group 1 of 4 with places 2 and 3; the
+-- events are as they were; the estimates stay 0, 1, 0, and three tokens are unplaced. Each output has exactly the room it needs.
+unfoldable pub countedPair : Pair
+countedPair =
+    record {
+      description =
+          0x01 ∷ 0x03 ∷ 0x01 ∷ 0x00 ∷ 0x02 ∷ 0x00 ∷ 0x01 ∷ 0x01 ∷ 0x04 ∷ 0x02 ∷ 0x00 ∷ 0x02 ∷ 0x00 ∷ 0x03 ∷ 0x02 ∷ 0x01 ∷ 0x01 ∷ 0x00 ∷ 0x02 ∷ 0x00
+          ∷ 0x01 ∷ [];
+      state = 0x01 ∷ 0x03 ∷ 0x00 ∷ 0x01 ∷ 0x00 ∷ 0x01 ∷ 0x03 ∷ [];
+    }
+
+pub count-holds : host looseBytes (recording 1 6 ∷ counting (3 ∷ 2 ∷ []) 4 21 7 ∷ []) .state ≡ countedPair
+unfolding looseBytes countedPair form groups number Stored.number Stored.front Stored.before Stored.small many end
+    freshReply recordReply countReply standing standingFrom begin call
+    place innerGroups members memberList group outermost entries row risingPlace filled arc event head limitsToEnd parts
+    shared shareFits hasPlace States.value countedValues saved stateFrom state valuesBytes stateBytes joined
+    ask recorded fresh share less inner possible raises raise own direct sum every next moved inRange gathered among inside
+    headCounted eachLoose names listedSum afterCount grouped rehomed
+    table netFrom netBytes memberBytes headBytes groupBytes placeBytes listLength rowBytes eventBytes
+count-holds = refl

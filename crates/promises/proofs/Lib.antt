@@ -1,5 +1,6 @@
 -- The proofs of the promises.
 pub mod Told
+pub mod Described
 pub mod Bytes
 pub mod Values
 pub mod Meaning

@@ -30,9 +30,8 @@ use Rattle.states.specs.States.Writing.{valuesBytes}
 use Rattle.states.specs.States.Nets.{longestState, restored}
 use Rattle.states.proofs.Longest.{longest-state}
 use Rattle.observer.specs.Bytes.{netIn, described, stateIn}
-use Rattle.observer.proofs.Described.{fine}
 use Rattle.promises.specs.Promises.{Longest}
-use Rattle.promises.proofs.Bytes.{of-described}
+use Rattle.promises.proofs.Described.{of-described, fine-net}
 use Rattle.promises.proofs.Meaning.{one-meaning}
 
 -- ---- the bounds
@@ -42,12 +41,10 @@ description-bounded d = of-described d (λ _. length d ≤ longestDescription) (
 
 state-bounded : (d : List ℕ) (net : Theory.Net) → described d ≡ value net
     → (b : List ℕ) (s : State) → stateIn net b ≡ value s → length b ≤ longestState
-unfolding netFrom
-state-bounded d =
-    of-described d (λ net. (b : List ℕ) (s : State) → stateIn net b ≡ value s → length b ≤ longestState) (λ left x e b s r.
-    let sized = fine d left x e .sized in
-    let was = read-ok (restored (netIn x) b) r in
-    longest-state (netIn x) (sized .places) (sized .groups) b (was .0) s (was .1))
+state-bounded d net says b s r =
+    let of = fine-net d net says in
+    let was = read-ok (restored net b) r in
+    longest-state net (of .places) (of .groups) b (was .0) s (was .1)
 
 -- ---- bytes that are as long
 

@@ -18,10 +18,10 @@ use Rattle.description.specs.Full.{Full}
 use Rattle.description.proofs.Inverse as Descriptions
 use Rattle.states.specs.States.Writing.{Fit}
 use Rattle.states.specs.States.Nets.{saved}
-use Rattle.observer.specs.Bytes.{netIn, described, stateIn}
+use Rattle.observer.specs.Bytes.{described, stateIn}
 use Rattle.values.proofs.Observers as Observers
 use Rattle.promises.specs.Promises.{RoundTrips}
-use Rattle.promises.proofs.Bytes.{read-back, read-are, of-described}
+use Rattle.promises.proofs.Described.{read-back, read-are}
 
 -- ---- descriptions
 
@@ -43,16 +43,11 @@ description-read net b u =
 
 state-written : (d : List ℕ) (net : Theory.Net) → described d ≡ value net → (s : State) → Fit (net .places) (net .groups) s
     → (t : State) × (stateIn net (saved net s) ≡ value t) × Alike net s t
-state-written d =
-    of-described d
-    (λ net. (s : State) → Fit (net .places) (net .groups) s → (t : State) × (stateIn net (saved net s) ≡ value t) × Alike net s t)
-    (λ left x e s fit. read-back d left x e (saved (netIn x) s) s (record { are = refl; fit = fit }))
+state-written d net says s fit = read-back d net says (saved net s) s (record { are = refl; fit = fit })
 
 state-read : (d : List ℕ) (net : Theory.Net) → described d ≡ value net
     → (b : List ℕ) (s : State) → stateIn net b ≡ value s → saved net s ≡ b
-state-read d =
-    of-described d (λ net. (b : List ℕ) (s : State) → stateIn net b ≡ value s → saved net s ≡ b)
-    (λ left x e b s r. sym (read-are d left x e b s r .are))
+state-read d net says b s r = sym (read-are d net says b s r .are)
 
 pub round-trips : RoundTrips
 round-trips =

@@ -1,19 +1,23 @@
 -- The answers that demand 3 speaks of are told in the calls' own words exactly when they are the replies.
 use Prim.Native.Nat.{ℕ, suc}
 use mathlib.Core.Path.{_≡_}
+use mathlib.Core.Bool.{Bool, true, false, _&&_}
 use mathlib.Core.List.{List}
-use mathlib.Core.Logic.{_↔_}
+use mathlib.Core.Logic.{_↔_, Iff·symm, Iff·trans}
 use native.Mathlib.Omega.{arith}
-use Rattle.theory.specs.Replies.{Reply, value, refusal}
-use Rattle.theory.specs.Answers.{Verdict, allow, hold}
-use Rattle.theory.proofs.Answers.{clash}
+use lib.Dec.{leb}
+use lib.ListN.{length}
+use Rattle.theory.specs.Replies.{Reply, value, refusal, _>>=_, question}
+use Rattle.theory.specs.Answers.{Verdict, allow, hold, noRoom}
+use Rattle.theory.proofs.Answers.{clash, then-no}
 use Rattle.theory.proofs.Exact.{replies, Retold, retold}
 use Rattle.theory.specs.Nets.{Net, Marking}
 use Rattle.theory.specs.Demands.{Answered, Demand3}
 use Rattle.theory.specs.Demands as Demands
 use Rattle.codec.specs.declared.Wrote.{Wrote}
 use Rattle.codec.specs.declared.Wrote.the-variants as Wrote
-use Rattle.codec.specs.Output.{wroteOf}
+use Rattle.codec.specs.declared.WroteBoth.the-variants as WroteBoth
+use Rattle.codec.specs.Output.{wroteOf, Pair, wroteBothOf, bothAnswer}
 use Rattle.net.specs.declared.Observer.{Observer}
 use Rattle.net.specs.declared.Checked.the-variants as Checked
 use Rattle.net.specs.declared.Verdict.the-variants.{Allow, Hold}
@@ -51,12 +55,25 @@ observed-iff : (r : Reply Observer) (n : ℕ) → (observedOf r .checked ≡ Che
 observed-iff (value b) n = ((λ e. clash (cc)), (λ e. clash (cc)))
 observed-iff (refusal k) n = ((λ e. cc), (λ e. cc))
 
+-- ---- counting
+
+-- 13 is asked last, so that the room plays no part in 15
+pub both-iff : (r : Reply Pair) (described room : ℕ) → (bothAnswer described room r ≡ WroteBoth.Refused 15) ↔ (r ≡ refusal 15)
+both-iff (refusal k) described room = ((λ e. cc), (λ e. cc))
+both-iff (value pair) described room = (go (leb (length (pair .description)) described && leb (length (pair .state)) room), (λ e. clash (cc)))
+  where
+    go : (t : Bool) → wroteBothOf (question t noRoom >>= λ _. value pair) ≡ WroteBoth.Refused 15 → value pair ≡ refusal 15
+    go true e = clash (cc)
+    go false e = absurd (let z : noRoom ≡ 15 = cc in let y : ⊥ = omega arith in y)
+
 -- ---- in the calls' words
 
-pub bytes-told : (r : Reply (List ℕ)) (j : Reply Verdict) → Retold (replies (List ℕ)) onBytesTold r j (wroteOf r) (answerOf j)
-bytes-told r j =
+-- whatever is kept with the bytes
+pub bytes-told : {S : Type 0} (kept : List ℕ → S) (r : Reply (List ℕ)) (j : Reply Verdict)
+    → Retold (replies S) onBytesTold (r >>= λ b. value (kept b)) j (wroteOf r) (answerOf j)
+bytes-told kept r j =
     record {
-      rejected = λ n l. wrote-iff r (suc n);
+      rejected = λ n l. Iff·trans (wrote-iff r (suc n)) (Iff·symm (then-no kept r (suc n)));
       refused = λ n. refused-iff j (suc n);
       held = λ l. held-iff j (suc l);
       allowed = allowed-iff j;

@@ -6,18 +6,19 @@ use mathlib.Core.List.{List}
 use mathlib.Core.Logic.{_↔_, Iff·trans}
 use native.Mathlib.Omega.{arith}
 use lib.ListN.{length}
+use Rattle.theory.specs.Nets as Theory
 use Rattle.theory.specs.Nets.{Marking}
 use Rattle.theory.specs.Firing.{Same}
 use Rattle.theory.specs.Recording.{State, Alike, Within, fresh, next, known}
 use Rattle.theory.proofs.Recording.{next-iff}
 use Rattle.theory.specs.Replies.{Reply, value, refusal, _>>=_}
 use Rattle.theory.specs.Answers.{recorded, judged}
-use Rattle.theory.proofs.Answers.{record-yes, then-yes}
-use Rattle.theory.proofs.Alike.{alike-sym, judge-alike, recorded-alike, within-alike}
+use Rattle.theory.proofs.Answers.{clash, record-yes, then-yes}
+use Rattle.theory.proofs.Alike.{judge-alike, recorded-alike, within-iff}
 use Rattle.theory.proofs.Known.{known-only}
 use Rattle.theory.proofs.Exact.{retold}
 use Rattle.theory.proofs.Exact as Exact
-use Rattle.theory.proofs.Faithful as Faithful
+use Rattle.theory.proofs.Faithful.{Faithful, alike-demand-2, known-consistent}
 use Rattle.theory.specs.Calls.{Call}
 use Rattle.theory.specs.Demands.{Demand3}
 use Rattle.theory.proofs.Lists.{Tied, both, neither, Ties, Kept, kept-standing, tied-told, safe-standing}
@@ -33,27 +34,29 @@ use Rattle.net.specs.Answers.{answerOf}
 use Rattle.net.specs.Observers.{stateOf, observerOf, observedOf, freshObserver}
 use Rattle.states.specs.States.Writing.{Fit}
 use Rattle.states.specs.States.Nets.{saved}
-use Rattle.states.proofs.Nets.{fit-next, fit-fresh}
+use Rattle.states.proofs.Nets.{fit-fitting, fit-next, fit-fresh}
 use Rattle.values.specs.Values.{bothCheck, restoredObserver, observerOutput, recordedObserver, observerJudged, observerKnown}
 use Rattle.values.proofs.Observers.{before, both-good, both-passed, output-is, same-observer, state-observer, state-fits, write-read}
 use Rattle.promises.specs.Lists.{bytesOf, onValues, memory}
 use Rattle.promises.specs.Promises.{onValuesTold, ListsOnValues, Leaves, StateOnValues}
 use Rattle.promises.proofs.Told.{values-told}
-use Rattle.promises.proofs.Bytes.{fit-fitting, recorded-fit}
+use Rattle.promises.proofs.Bytes.{recorded-fit}
 
--- an observer of a state that fits
-pub record ObserverOf (net : Net) (o : Observer) (s : State) : Type 0 where
-  pub is : o ≡ observerOf net s
-  pub fit : Fit (net .places) (groupsOf (net .groups)) s
+-- an observer of a state that fits; no call on values changes the groups
+record ObserverOf (net : Net) (o : Observer) (groups : Theory.Groups) (s : State) : Type 0 where
+  unchanged : groups ≡ groupsOf (net .groups)
+  is : o ≡ observerOf net s
+  fit : Fit (net .places) (groupsOf (net .groups)) s
 
 -- recording leaves the observer of the theory's next state
 recorded-tied : (net : Net) (s : State) → Fit (net .places) (groupsOf (net .groups)) s → (number : ℕ)
-    → Tied (ObserverOf net) (recorded (netOf net) s number >>= λ t. value (observerOf net t)) (recorded (netOf net) s number)
+    → Tied (λ o t. ObserverOf net o (groupsOf (net .groups)) t) (recorded (netOf net) s number >>= λ t. value (observerOf net t)) (recorded (netOf net) s number)
 recorded-tied net s fit number = go (recorded (netOf net) s number) refl
   where
-    go : (r : Reply State) → recorded (netOf net) s number ≡ r → Tied (ObserverOf net) (r >>= λ t. value (observerOf net t)) r
+    go : (r : Reply State) → recorded (netOf net) s number ≡ r
+        → Tied (λ o t. ObserverOf net o (groupsOf (net .groups)) t) (r >>= λ t. value (observerOf net t)) r
     go (refusal n) u = neither n
-    go (value t) u = both (observerOf net t) t (record { is = refl; fit = recorded-fit (netOf net) number fit u })
+    go (value t) u = both (observerOf net t) t (record { unchanged = refl; is = refl; fit = recorded-fit (netOf net) number fit u })
 
 -- ---- at an observer that fits the net
 
@@ -78,7 +81,8 @@ module _ (net : Net) (o : Observer) (met : bothCheck net o ≡ value tt) where
   state-demand-3 e l =
       retold (values-told (recordedObserver net o (suc e)) (observerJudged net o (suc e)))
       (retold
-      (tied-told {R = ObserverOf net} (rw (recorded-is (suc e)) (recorded-tied net (stateOf o) fit (suc e))) (judged-is (suc e)))
+      (tied-told {R = λ o t. ObserverOf net o (groupsOf (net .groups)) t} (rw (recorded-is (suc e)) (recorded-tied net (stateOf o) fit (suc e)))
+      (judged-is (suc e)))
       (Exact.demand-3 (netOf net) (good-net net checked) (stateOf o) (Within (netOf net) (stateOf o))
       (record { fitting = fit-fitting (netOf net) fit; sound = λ m w. w; complete = λ m w. w })
       (next (netOf net) (stateOf o) e .estimate) e (λ t p q. refl) l))
@@ -95,9 +99,7 @@ module _ (net : Net) (o : Observer) (met : bothCheck net o ≡ value tt) where
         event = found .0;
         numbered = found .1 .index;
         next = alike;
-        consistent = λ m. Iff·trans
-            (within-alike (netOf net) alike m, within-alike (netOf net) (alike-sym (netOf net) alike) m)
-            (next-iff (netOf net) (stateOf o) (found .0) (found .1 .can) m);
+        consistent = λ m. Iff·trans (within-iff (netOf net) alike m) (next-iff (netOf net) (stateOf o) (found .0) (found .1 .can) m);
       }
 
   state-known : observerKnown net o ≡ value true → (m : Marking) → Within (netOf net) (stateOf o) m ↔ Same (netOf net) (stateOf o .estimate) m
@@ -148,21 +150,28 @@ module _ (net : Net) (checked : netCheck net ≡ value tt) where
       remainders-long = unfold observerOf in length-listed mostGroups _
 
   -- the calls on values are tied to the theory's
-  pub ties : Ties (netOf net) (onValues net) (ObserverOf net)
+  ties : Ties (netOf net) (onValues net) (ObserverOf net)
   ties =
       record {
-        begins = record {
-          is = fresh-is;
-          fit = fresh-fit;
+        begins = record { unchanged = refl; is = fresh-is; fit = fresh-fit };
+        records = λ o groups s of number room. rw (of .unchanged, of .is, same-recorded s (of .fit) number) (recorded-tied net s (of .fit) number);
+        judges = λ o groups s of number. rw (of .unchanged, of .is) (same-judged s (of .fit) number);
+        counts = λ o groups s of list n described room later u. clash (cc);
+        restores = λ o now groups s of there. record {
+          state = observerOf net s;
+          read = rw (of .is) (restored-back s (of .fit));
+          tied = record { unchanged = of .unchanged; is = refl; fit = of .fit };
         };
-        records = λ o s of number room. rw (of .is, same-recorded s (of .fit) number) (recorded-tied net s (of .fit) number);
-        judges = λ o s of number. rw (of .is) (same-judged s (of .fit) number);
-        restores = λ o s of. record { state = observerOf net s; read = rw (of .is) (restored-back s (of .fit)); tied = record { is = refl; fit = of .fit } };
       }
 
   module _ (list : List Call) where
     kept : Kept (netOf net) (onValues net) (ObserverOf net) (memory net list)
     kept = kept-standing (good-net net checked) ties list
+
+    faithful : Faithful (netOf net) (groupsOf (net .groups)) (kept .state) (memory net list .deeds)
+    faithful =
+        subst (λ (groups : Theory.Groups). Faithful (netOf net) groups (kept .state) (memory net list .deeds)) (kept .tied .unchanged)
+        (kept .faithful)
 
     alike : Alike (netOf net) (stateOf (memory net list .state)) (kept .state)
     alike = rw (kept .tied .is) (state-observer net checked (kept .state) (kept .tied .fit))
@@ -173,12 +182,12 @@ module _ (net : Net) (checked : netCheck net ≡ value tt) where
     pub list-on-values : ListsOnValues net list
     list-on-values =
         record {
-          demand-2 = Faithful.alike-demand-2 (netOf net) (good-net net checked) (kept .state) (memory net list .deeds) (kept .faithful) (stateOf (memory net list .state)) alike;
+          demand-2 = alike-demand-2 (netOf net) (groupsOf (net .groups)) (kept .state) (memory net list .deeds) faithful (stateOf (memory net list .state)) alike;
           demand-3 = λ e l.
               retold (values-told (recordedObserver net (memory net list .state) (suc e)) (observerJudged net (memory net list .state) (suc e)))
               (Lists.demand-3 (good-net net checked) ties (memory net list) kept 0 e l);
           known = λ u m.
-              Faithful.known-consistent (netOf net) (good-net net checked) (kept .state) (memory net list .deeds) (kept .faithful)
+              known-consistent (netOf net) (groupsOf (net .groups)) (kept .state) (memory net list .deeds) faithful
               (stateOf (memory net list .state)) alike m (state-known net (memory net list .state) fits u m);
           stays = safe-standing (good-net net checked) ties list;
         }

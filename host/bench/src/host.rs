@@ -24,3 +24,7 @@ pub fn judge(d: &[u8], s: &[u8], event: u32) -> i64 {
 pub fn known(d: &[u8], s: &[u8]) -> i64 {
     number(yarrowbeam::known(d, s), i64::from)
 }
+
+pub fn count(d: &[u8], s: &[u8], places: &[u8], n: u32, described: &mut [u8], out: &mut [u8]) -> i64 {
+    number(yarrowbeam::count(d, s, places, n, described, out), |(d, s)| (d as i64) << 32 | s as i64)
+}

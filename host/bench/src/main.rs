@@ -13,54 +13,89 @@ use nets::{Case, Numbers};
 use std::hint::black_box;
 use std::time::Instant;
 
-/// One observer's four calls.
+/// One observer's five calls.
 struct Observer {
     name: &'static str,
     fresh: fn(&[u8], &mut [u8]) -> i64,
     record: fn(&[u8], &[u8], u32, &mut [u8]) -> i64,
     judge: fn(&[u8], &[u8], u32) -> i64,
     known: fn(&[u8], &[u8]) -> i64,
+    count: fn(&[u8], &[u8], &[u8], u32, &mut [u8], &mut [u8]) -> i64,
 }
 
-const OBSERVERS: [Observer; 3] = [
-    Observer { name: "host", fresh: host::fresh, record: host::record, judge: host::judge, known: host::known },
-    Observer { name: "strong", fresh: strong::fresh, record: strong::record, judge: strong::judge, known: strong::known },
-    Observer { name: "plain", fresh: plain::fresh, record: plain::record, judge: plain::judge, known: plain::known },
-];
+macro_rules! observer {
+    ($name:ident) => {
+        Observer {
+            name: stringify!($name),
+            fresh: $name::fresh,
+            record: $name::record,
+            judge: $name::judge,
+            known: $name::known,
+            count: $name::count,
+        }
+    };
+}
 
+const OBSERVERS: [Observer; 3] = [observer!(host), observer!(strong), observer!(plain)];
+
+/// The lengths of the largest state and of the largest description.
 const ROOM: usize = 291;
+const LONGEST: usize = 24_005;
 
 // ---- alike
 
-/// All that an observer answers and writes for these bytes.
-fn answers(observer: &Observer, d: &[u8], s: &[u8], event: u32, room: usize) -> ([i64; 4], [u8; ROOM], [u8; ROOM]) {
-    let (mut begun, mut after) = ([0x5A; ROOM], [0x5A; ROOM]);
+/// What the calls are asked: an event, a head count, and the rooms for a description and for a state.
+struct Asked<'a> {
+    d: &'a [u8],
+    s: &'a [u8],
+    event: u32,
+    places: &'a [u8],
+    tokens: u32,
+    described_room: usize,
+    room: usize,
+}
+
+/// All that an observer answers and writes; behind each room stand bytes that nobody writes.
+fn answers(observer: &Observer, asked: &Asked) -> ([i64; 5], [[u8; ROOM]; 3], Vec<u8>) {
+    let &Asked { d, s, event, places, tokens, described_room, room } = asked;
+    let (mut begun, mut after, mut counted) = ([0x5A; ROOM], [0x5A; ROOM], [0x5A; ROOM]);
+    let mut described = vec![0x5A; described_room + 8];
     let numbers = [
         (observer.fresh)(d, &mut begun[..room]),
         (observer.record)(d, s, event, &mut after[..room]),
         (observer.judge)(d, s, event),
         (observer.known)(d, s),
+        (observer.count)(d, s, places, tokens, &mut described[..described_room], &mut counted[..room]),
     ];
-    (numbers, begun, after)
+    (numbers, [begun, after, counted], described)
 }
 
-/// What the inputs met: each refusal of recording by its number, or 0 for bytes written; allowances, holds and yeses.
+/// What the inputs met: each refusal of recording and of counting by its number, or 0 for bytes written; allowances, holds and
+/// yeses.
 #[derive(Default)]
 struct Met {
     recorded: [u32; 14],
+    counted: [u32; 17],
     allowed: u32,
     held: u32,
     known: u32,
 }
 
 /// Asserts that all observers answer and write the same.
-fn compare(d: &[u8], s: &[u8], event: u32, room: usize, met: &mut Met) {
-    let first = answers(&OBSERVERS[0], d, s, event, room);
+fn compare(asked: &Asked, met: &mut Met) {
+    let first = answers(&OBSERVERS[0], asked);
     for observer in &OBSERVERS[1..] {
-        assert_eq!(first, answers(observer, d, s, event, room), "host and {}: {d:02X?} {s:02X?} {event} {room}", observer.name);
+        let Asked { d, s, event, places, tokens, described_room, room } = asked;
+        assert_eq!(
+            first,
+            answers(observer, asked),
+            "host and {}: {d:02X?} {s:02X?} {event} {places:?} {tokens} {described_room} {room}",
+            observer.name
+        );
     }
-    let [_, recorded, judged, known] = first.0;
+    let [_, recorded, judged, known, counted] = first.0;
     met.recorded[usize::try_from(-recorded).unwrap_or(0)] += 1;
+    met.counted[usize::try_from(-counted).unwrap_or(0)] += 1;
     met.allowed += u32::from(judged == 0);
     met.held += u32::from(judged > 0);
     met.known += u32::from(known == 1);
@@ -70,6 +105,9 @@ fn compare(d: &[u8], s: &[u8], event: u32, room: usize, met: &mut Met) {
 fn damaged(bytes: &[u8], numbers: &mut Numbers) -> Vec<u8> {
     let mut bytes = bytes.to_vec();
     for _ in 0..numbers.within(0, 2) {
+        if bytes.is_empty() {
+            break;
+        }
         let at = (numbers.next() % bytes.len() as u64) as usize;
         match numbers.within(0, 5) {
             0 => bytes[at] = numbers.next() as u8,
@@ -79,19 +117,17 @@ fn damaged(bytes: &[u8], numbers: &mut Numbers) -> Vec<u8> {
             4 => bytes.insert(at, numbers.next() as u8),
             _ => drop(bytes.remove(at)),
         }
-        if bytes.is_empty() {
-            break;
-        }
     }
     bytes
 }
 
-fn alike(cases: &[Case]) {
+fn alike<'a>(cases: impl Iterator<Item = &'a Case>) {
     let mut met = Met::default();
     let mut numbers = Numbers(0x0123_4567_89AB_CDEF);
     for case in cases {
+        let Case { d, s, places, tokens, .. } = case;
         for event in 0..=65 {
-            compare(&case.d, &case.s, event, ROOM, &mut met);
+            compare(&Asked { d, s, event, places, tokens: *tokens, described_room: LONGEST, room: ROOM }, &mut met);
         }
         // Faults near the start of a description are met first, so those of its members get a share of their own.
         for i in 0..if case.d.len() < 1_000 { 100_000 } else { 8_000 } {
@@ -99,26 +135,36 @@ fn alike(cases: &[Case]) {
             let mut d = damaged(&case.d[..split], &mut numbers);
             d.extend(&case.d[split..]);
             let s = damaged(&case.s, &mut numbers);
-            let event = numbers.within(0, case.event + 1);
-            let room = numbers.within(0, ROOM as u32) as usize;
-            compare(&d, &s, event, room, &mut met);
+            let places = damaged(&case.places, &mut numbers);
+            let asked = Asked {
+                d: &d,
+                s: &s,
+                event: numbers.within(0, case.event + 1),
+                places: &places,
+                tokens: case.tokens,
+                described_room: d.len() + numbers.within(0, 6) as usize,
+                room: numbers.within(0, ROOM as u32) as usize,
+            };
+            compare(&asked, &mut met);
         }
     }
     for _ in 0..100_000 {
         let (d, s) = nets::small(&mut numbers);
         for event in 1..=3 {
-            compare(&d, &s, event, ROOM, &mut met);
+            let places: Vec<u8> = (0..numbers.within(0, 3)).map(|_| numbers.within(0, 7) as u8).collect();
+            let tokens = [numbers.within(0, 9), 65_535, 65_536][event as usize - 1];
+            let described_room = d.len() + numbers.within(3, 6) as usize;
+            compare(&Asked { d: &d, s: &s, event, places: &places, tokens, described_room, room: ROOM }, &mut met);
         }
     }
-    let [written, refused @ ..] = met.recorded;
-    let refused: Vec<String> = refused.iter().enumerate().map(|(i, times)| format!("{} ({times})", i + 1)).collect();
-    println!(
-        "All three observers answered and wrote alike on {} inputs. Judging allowed {},",
-        met.recorded.iter().sum::<u32>(),
-        met.allowed
-    );
-    println!("held {}, {} states were known, and recording wrote for {written}; its refusals, and", met.held, met.known);
-    println!("how often: {}.\n", refused.join(", "));
+    let refusals = |met: &[u32]| {
+        let refused = met.iter().enumerate().skip(1).filter(|(_, &times)| times > 0);
+        refused.map(|(refusal, times)| format!("{refusal} ({times})")).collect::<Vec<_>>().join(", ")
+    };
+    println!("All three observers answered and wrote alike on {} inputs.", met.recorded.iter().sum::<u32>());
+    println!("Judging allowed {} and held {}, and {} states were known.", met.allowed, met.held, met.known);
+    println!("Recording wrote for {}; its refusals, and how often: {}.", met.recorded[0], refusals(&met.recorded));
+    println!("Counting wrote for {}; its refusals, and how often: {}.\n", met.counted[0], refusals(&met.counted));
 }
 
 // ---- time
@@ -161,6 +207,15 @@ fn calls<'a>(observer: &'a Observer, case: &'a Case) -> [(&'static str, Call<'a>
     ]
 }
 
+/// A head count by one observer on a case that has loose places.
+fn count<'a>(observer: &'a Observer, case: &'a Case) -> Call<'a> {
+    let (mut described, mut after) = (vec![0; LONGEST], [0; ROOM]);
+    let Case { d, s, places, tokens, .. } = case;
+    Box::new(move || {
+        (observer.count)(black_box(d), black_box(s), black_box(places), *tokens, black_box(&mut described), black_box(&mut after))
+    })
+}
+
 fn time(cases: &[Case]) {
     println!("| net | bytes | call | host ns | strong ns | plain ns | host / strong | host / plain |");
     println!("|---|--:|---|--:|--:|--:|--:|--:|");
@@ -189,6 +244,27 @@ fn time(cases: &[Case]) {
     println!();
 }
 
+/// Head counts, and beside each a fresh state of the same description, since a head count reads it as a fresh state does, and then
+/// writes it.
+fn time_of_counts(cases: &[Case]) {
+    println!("| net | bytes | places | call | host ns | strong ns | plain ns | host / strong | host / plain | host's count / fresh |");
+    println!("|---|--:|--:|---|--:|--:|--:|--:|--:|--:|");
+    for case in cases {
+        let mut both: Vec<Call> = OBSERVERS.iter().map(|observer| count(observer, case)).collect();
+        for observer in &OBSERVERS {
+            let [(_, fresh), ..] = calls(observer, case);
+            both.push(fresh);
+        }
+        let ns = times(&mut both);
+        let row = |ns: &[f64]| {
+            format!("{:.0} | {:.0} | {:.0} | {:.2} | {:.2}", ns[0], ns[1], ns[2], ns[0] / ns[1], ns[0] / ns[2])
+        };
+        println!("| {} | {} | {} | fresh | {} | |", case.name, case.d.len(), case.places.len(), row(&ns[3..]));
+        println!("|  |  |  | count | {} | {:.2} |", row(&ns[..3]), ns[0] / ns[3]);
+    }
+    println!();
+}
+
 /// How the host's calls grow with the description's length.
 fn growth(cases: &[Case]) {
     println!("| bytes | fresh ns | record ns | judge ns | fresh, ns a byte | judge, ns a byte |");
@@ -210,17 +286,19 @@ fn growth(cases: &[Case]) {
 
 // ---- stack
 
-fn stacks(case: &Case) {
+/// On a net, and for head counts on that net with loose places.
+fn stacks(case: &Case, loosened: &Case) {
     let nothing = stack::touched(&mut || ());
-    println!("| stack, bytes | fresh | record | judge |");
-    println!("|---|--:|--:|--:|");
+    println!("| stack, bytes | fresh | record | judge | count |");
+    println!("|---|--:|--:|--:|--:|");
     for observer in &OBSERVERS {
-        let touched = calls(observer, case).map(|(_, mut call)| {
+        let [fresh, record, judge] = calls(observer, case).map(|(_, call)| call);
+        let touched = [fresh, record, judge, count(observer, loosened)].map(|mut call| {
             stack::touched(&mut || {
                 black_box(call());
             }) - nothing
         });
-        println!("| {} | {} | {} | {} |", observer.name, touched[0], touched[1], touched[2]);
+        println!("| {} | {} | {} | {} | {} |", observer.name, touched[0], touched[1], touched[2], touched[3]);
     }
     println!();
 }
@@ -229,10 +307,11 @@ fn main() {
     if std::env::args().any(|word| word == "journal") {
         return journal::speeds(&nets::rounds());
     }
-    let cases = nets::all();
-    alike(&cases);
+    let (cases, loosened) = (nets::all(), nets::loosened());
+    alike(cases.iter().chain(&loosened));
     time(&cases);
+    time_of_counts(&loosened);
     growth(&nets::growing());
-    stacks(&cases[2]);
+    stacks(&cases[2], &loosened[2]);
     journal::speeds(&nets::rounds());
 }

@@ -21,12 +21,14 @@ impl Numbers {
 }
 
 /// A description, a state that fits it, and an event that is possible there, raises every limit's sum and is allowed all the
-/// same: judging it has the most to do.
+/// same: judging it has the most to do. Where places are loose, a head count of them.
 pub struct Case {
     pub name: &'static str,
     pub d: Vec<u8>,
     pub s: Vec<u8>,
     pub event: u32,
+    pub places: Vec<u8>,
+    pub tokens: u32,
 }
 
 /// A description, and events that can be gone through round after round: each round leaves the state as the one before it did.
@@ -172,7 +174,22 @@ fn state(d: &[u8], events: &[u32]) -> Vec<u8> {
 fn case(shape: &Shape) -> Case {
     let d = reference::write_description(&net(shape));
     let recorded: Vec<u32> = (1..=shape.recorded).collect();
-    Case { name: shape.name, s: state(&d, &recorded), d, event: shape.recorded + 1 }
+    Case { name: shape.name, s: state(&d, &recorded), d, event: shape.recorded + 1, places: Vec::new(), tokens: 0 }
+}
+
+/// The case without its last group, which has no other inside: its places are loose, and a head count makes them a group again.
+fn loosen(case: Case) -> Case {
+    let mut net = reference::read_description(&case.d).unwrap();
+    let last = net.groups.len();
+    let group = net.groups.pop().unwrap();
+    let places: Vec<u8> = (1..).zip(&net.homes).filter(|(_, &home)| home == last).map(|(place, _)| place).collect();
+    net.homes.iter_mut().filter(|home| **home == last).for_each(|home| *home = 0);
+    let d = reference::write_description(&net);
+    let recorded: Vec<u32> = (1..case.event).collect();
+    let s = state(&d, &recorded);
+    let estimates = reference::read_state(&net, &s).unwrap().estimates;
+    let tokens = group.count + places.iter().map(|&place| estimates[usize::from(place) - 1]).sum::<u32>();
+    Case { d, s, places, tokens, ..case }
 }
 
 /// A small net without a pattern, with loose places, uneven nesting and low ceilings, and a state that fits it; for comparing.
@@ -196,7 +213,7 @@ pub fn small(numbers: &mut Numbers) -> (Vec<u8>, Vec<u8>) {
         }
         whole
     };
-    let (counts, unplaced) = (gathered(3), gathered(3));
+    let (counts, mut unplaced) = (gathered(3), gathered(3));
     groups.iter_mut().zip(counts).for_each(|(group, count)| group.count = count);
     let mut row = |high: u32| -> Vec<u32> {
         (0..places).map(|_| if numbers.next() % 2 == 0 { 0 } else { numbers.within(0, high) }).collect()
@@ -212,6 +229,11 @@ pub fn small(numbers: &mut Numbers) -> (Vec<u8>, Vec<u8>) {
     if numbers.next() % 4 == 0 {
         estimates[0] = 65_535;
     }
+    // as many groups as can be, without place or token
+    if numbers.next() % 8 == 0 {
+        groups.resize(32, Group { around: 0, count: 0 });
+        unplaced.resize(32, 0);
+    }
     let (takes, gives) = rows.into_iter().unzip();
     let net = Net { homes, groups, takes, gives, limits };
     (reference::write_description(&net), reference::write_state(&State { estimates, unplaced }))
@@ -223,13 +245,26 @@ pub fn growing() -> Vec<Case> {
 }
 
 pub fn all() -> Vec<Case> {
-    let mut all = vec![Case { name: "the pool of three", s: state(&POOL, &[1, 1]), d: POOL.to_vec(), event: 2 }];
+    let (d, s) = (POOL.to_vec(), state(&POOL, &[1, 1]));
+    let mut all = vec![Case { name: "the pool of three", d, s, event: 2, places: Vec::new(), tokens: 0 }];
     all.extend([&MIDDLE, &LARGEST, &ONE_BYTE].map(case));
     assert_eq!(all[2].d.len(), 24_005, "no description is larger");
     for case in &all {
         assert_eq!(plain::judge(&case.d, &case.s, case.event), 0, "{}: every limit is weighed", case.name);
     }
     all
+}
+
+/// The same nets for head counts, each with the places of its last group loose; and one that is loose places and little else, of
+/// which a head count moves the most.
+pub fn loosened() -> Vec<Case> {
+    let mut loosened: Vec<Case> = all().into_iter().map(loosen).collect();
+    assert_eq!(loosened[2].d.len(), 24_000, "a head count makes it the largest");
+    let row = || vec![vec![0; 64]];
+    let d = reference::write_description(&Net { homes: vec![0; 64], groups: vec![], takes: row(), gives: row(), limits: vec![] });
+    let (s, places) = (state(&d, &[]), (1..=64).rev().collect());
+    loosened.push(Case { name: "64 loose places, an event without arcs", d, s, event: 1, places, tokens: 1_000 });
+    loosened
 }
 
 /// The rounds of the journal: the list of the scope document and then the tokens back to place 1; and all events of the middle

@@ -1,23 +1,29 @@
 //! One case: every call through the library beside the reference.
 
-use crate::kinds::{count_sizes, Kind, Of, Room};
-use reference::{read_description, read_state, write_state};
+use crate::kinds::{after_count, count_head_count, count_sizes, Kind, Of, Room, SHORT};
+use reference::{read_description, read_state, write_description, write_state};
 use seeded::hex;
 use seeded::met::Met;
 use seeded::numbers::Numbers;
 use std::hint::black_box;
-use yarrowbeam::{Refusal, LARGEST_STATE};
+use yarrowbeam::{Refusal, LARGEST_DESCRIPTION, LARGEST_STATE};
 
 pub struct Case {
     pub description: Vec<u8>,
     pub state: Vec<u8>,
     pub event: u32,
+    /// The places of a head count, and how many tokens they hold.
+    pub places: Vec<u8>,
+    pub tokens: u32,
+    /// Was a head count accepted before?
+    pub counted: bool,
 }
 
 /// What a call answers.
-#[derive(Clone, Copy, Debug, PartialEq, Eq)]
+#[derive(Clone, Debug, PartialEq, Eq)]
 enum Answer {
-    Wrote(usize),
+    /// So many bytes to each output.
+    Wrote(Vec<usize>),
     Verdict(yarrowbeam::Verdict),
     Known(bool),
     Refused(u32),
@@ -28,8 +34,8 @@ impl Answer {
         answered.map_or_else(|refusal| Answer::Refused(refusal.number()), accepted)
     }
 
-    fn kind(self) -> Kind {
-        match self {
+    fn kind(&self) -> Kind {
+        match *self {
             Answer::Wrote(_) => Kind::Wrote,
             Answer::Verdict(yarrowbeam::Verdict::Allow) => Kind::Allow,
             Answer::Verdict(yarrowbeam::Verdict::Hold(limit)) => Kind::Hold(limit),
@@ -40,12 +46,16 @@ impl Answer {
     }
 }
 
-/// What the reference says of a case, where there is room for all that is written.
+/// What a call writes to its outputs where there is room, or its refusal.
+type Written<const N: usize> = Result<[Vec<u8>; N], u32>;
+
+/// What the reference says of a case.
 struct Expected {
-    fresh: Result<Vec<u8>, u32>,
-    record: Result<Vec<u8>, u32>,
+    fresh: Written<1>,
+    record: Written<1>,
     judge: Answer,
     known: Answer,
+    count: Written<2>,
 }
 
 fn expected(case: &Case, met: &mut Met<Of>) -> Expected {
@@ -54,6 +64,7 @@ fn expected(case: &Case, met: &mut Met<Of>) -> Expected {
         record: Err(refusal),
         judge: Answer::Refused(refusal),
         known: Answer::Refused(refusal),
+        count: Err(refusal),
     };
     let net = match read_description(&case.description) {
         Ok(net) => net,
@@ -61,21 +72,24 @@ fn expected(case: &Case, met: &mut Met<Of>) -> Expected {
     };
     count_sizes(&net, met);
     met.count(Of("description", Kind::Size(case.description.len(), "bytes")));
-    let fresh = Ok(write_state(&reference::fresh(&net)));
+    let fresh = Ok([write_state(&reference::fresh(&net))]);
     let state = match read_state(&net, &case.state) {
         Ok(state) => state,
         Err(refusal) => return Expected { fresh, ..refused(refusal) },
     };
     met.count(Of("state", Kind::Size(case.state.len(), "bytes")));
+    count_head_count(&net, &state, &case.places, case.tokens, met);
     Expected {
         fresh,
-        record: reference::record(&net, &state, case.event).map(|after| write_state(&after)),
+        record: reference::record(&net, &state, case.event).map(|after| [write_state(&after)]),
         judge: match reference::judge(&net, &state, case.event) {
             Ok(reference::Verdict::Allow) => Answer::Verdict(yarrowbeam::Verdict::Allow),
             Ok(reference::Verdict::Hold(limit)) => Answer::Verdict(yarrowbeam::Verdict::Hold(limit)),
             Err(refusal) => Answer::Refused(refusal),
         },
         known: Answer::Known(reference::known(&net, &state)),
+        count: reference::count(&net, &state, &case.places, case.tokens)
+            .map(|(net, state)| [write_description(&net), write_state(&state)]),
     }
 }
 
@@ -111,68 +125,98 @@ impl Lent {
     }
 }
 
+/// An output: the name under which its rooms are counted, and the length of the largest.
+type Output = (&'static str, usize);
+
 /// Makes every call and compares its answer and all bytes with what the reference says; the first difference, in words.
 pub fn compare(case: &Case, numbers: &mut Numbers, met: &mut Met<Of>) -> Result<(), String> {
     let expected = expected(case, met);
-    let inputs = [Lent::new(&case.description, numbers), Lent::new(&case.state, numbers)];
-    let [d, s] = [inputs[0].bytes(), inputs[1].bytes()];
-    let mut calls = Calls { inputs: &inputs, numbers, met };
-    calls.writes("fresh", expected.fresh, |out| yarrowbeam::fresh(d, out))?;
-    calls.writes("record", expected.record, |out| yarrowbeam::record(d, s, case.event, out))?;
-    calls.answers("judge", expected.judge, Answer::of(yarrowbeam::judge(d, s, case.event), Answer::Verdict))?;
-    calls.answers("known", expected.known, Answer::of(yarrowbeam::known(d, s), Answer::Known))
+    let inputs = [&case.description, &case.state, &case.places].map(|bytes| Lent::new(bytes, numbers));
+    let [d, s, places] = inputs.each_ref().map(Lent::bytes);
+    let mut calls = Calls { inputs: &inputs, counted: case.counted, numbers, met };
+    let both = [("count's description", LARGEST_DESCRIPTION), ("count's state", LARGEST_STATE)];
+    calls.writes("fresh", [("fresh", LARGEST_STATE)], expected.fresh, |[out]| {
+        yarrowbeam::fresh(d, out).map(|length| [length])
+    })?;
+    calls.writes("record", [("record", LARGEST_STATE)], expected.record, |[out]| {
+        yarrowbeam::record(d, s, case.event, out).map(|length| [length])
+    })?;
+    calls.answers("judge", &expected.judge, Answer::of(yarrowbeam::judge(d, s, case.event), Answer::Verdict))?;
+    calls.answers("known", &expected.known, Answer::of(yarrowbeam::known(d, s), Answer::Known))?;
+    calls.writes("count", both, expected.count, |[described, out]| {
+        yarrowbeam::count(d, s, places, case.tokens, described, out).map(|(description, state)| [description, state])
+    })
 }
 
 struct Calls<'a> {
-    inputs: &'a [Lent; 2],
+    inputs: &'a [Lent; 3],
+    counted: bool,
     numbers: &'a mut Numbers,
     met: &'a mut Met<Of>,
 }
 
 impl Calls<'_> {
     /// A call has answered: is it what the reference says, and are the inputs as they were?
-    fn answers(&mut self, call: &'static str, expected: Answer, answered: Answer) -> Result<(), String> {
-        if answered != expected {
+    fn answers(&mut self, call: &'static str, expected: &Answer, answered: Answer) -> Result<(), String> {
+        if answered != *expected {
             return Err(format!("{call} answered {answered:?}, the reference {expected:?}"));
         }
         if !self.inputs.iter().all(|input| input.has(&[])) {
             return Err(format!("{call} changed its inputs"));
         }
         self.met.count(Of(call, expected.kind()));
+        if self.counted {
+            self.met.count(Of(after_count(call), expected.kind()));
+        }
         Ok(())
     }
 
-    /// A call that writes is made with some room for its output.
-    fn writes(
-        &mut self,
-        call: &'static str,
-        expected: Result<Vec<u8>, u32>,
-        make: impl FnOnce(&mut [u8]) -> Result<usize, Refusal>,
-    ) -> Result<(), String> {
-        // Where nothing is to be written, the room is as if for the pool of three.
-        let length = expected.as_ref().map_or(7, Vec::len);
-        let room = match self.numbers.within(1, 8) {
+    /// Some room for an output that gets so many bytes.
+    fn room(&mut self, length: usize, largest: usize) -> usize {
+        match self.numbers.within(1, 8) {
             1 => 0,
             2 => length - 1,
             3 => self.numbers.below(length),
             4 => length + self.numbers.below(40),
-            5 => LARGEST_STATE,
+            5 => largest,
             _ => length,
-        };
-        if expected.is_ok() {
-            self.met.count(Of(call, Kind::Room(Room::of(room, length))));
         }
-        let expected = expected.and_then(|bytes| if bytes.len() <= room { Ok(bytes) } else { Err(13) });
-        let (answer, first) = match &expected {
-            Ok(bytes) => (Answer::Wrote(bytes.len()), &bytes[..]),
-            Err(refusal) => (Answer::Refused(*refusal), &[][..]),
+    }
+
+    /// A call that writes is made with some room for each output; all outputs are as they were unless there is room for all.
+    fn writes<const N: usize>(
+        &mut self,
+        call: &'static str,
+        outputs: [Output; N],
+        expected: Written<N>,
+        make: impl FnOnce([&mut [u8]; N]) -> Result<[usize; N], Refusal>,
+    ) -> Result<(), String> {
+        // Where nothing is to be written, the rooms are as if for the state of the pool of three.
+        let lengths = expected.as_ref().map_or([7; N], |written| written.each_ref().map(Vec::len));
+        let rooms: [usize; N] = std::array::from_fn(|i| self.room(lengths[i], outputs[i].1));
+        let short: [bool; N] = std::array::from_fn(|i| rooms[i] < lengths[i]);
+        if expected.is_ok() {
+            for i in 0..N {
+                self.met.count(Of(outputs[i].0, Kind::Room(Room::of(rooms[i], lengths[i]))));
+                self.met.count(Of(outputs[i].0, Kind::Size(lengths[i], "bytes")));
+            }
+            for (name, _) in SHORT.iter().filter(|(_, which)| short[..] == which[..]) {
+                self.met.count(Of(call, Kind::With(name)));
+            }
+        }
+        let expected = expected.and_then(|written| if short == [false; N] { Ok(written) } else { Err(13) });
+        let answer = match &expected {
+            Ok(_) => Answer::Wrote(lengths.to_vec()),
+            Err(refusal) => Answer::Refused(*refusal),
         };
-        let mut out = Lent::new(&self.numbers.bytes(room), self.numbers);
-        let answered = Answer::of(make(out.bytes_mut()), Answer::Wrote);
-        self.answers(call, answer, answered).map_err(|words| format!("{words}; the room was {room}"))?;
-        if !out.has(first) {
-            let [before, after] = [&out.copy, &out.all].map(|bytes| hex(bytes));
-            return Err(format!("{call} wrote other bytes; output with its guards\nbefore {before}\nafter  {after}"));
+        let mut lent = rooms.map(|room| Lent::new(&self.numbers.bytes(room), self.numbers));
+        let answered = Answer::of(make(lent.each_mut().map(Lent::bytes_mut)), |lengths| Answer::Wrote(lengths.to_vec()));
+        self.answers(call, &answer, answered).map_err(|words| format!("{words}; the rooms were {rooms:?}"))?;
+        for (i, out) in lent.iter().enumerate() {
+            if !out.has(expected.as_ref().map_or(&[], |written| &written[i])) {
+                let [before, after] = [&out.copy, &out.all].map(|bytes| hex(bytes));
+                return Err(format!("{call} wrote other bytes; output {i} with its guards\nbefore {before}\nafter  {after}"));
+            }
         }
         Ok(())
     }

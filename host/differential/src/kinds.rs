@@ -1,12 +1,13 @@
 //! What the cases meet, and what they must meet.
 
-use reference::Net;
+use crate::head_counts::estimated;
+use reference::{Net, State};
 use seeded::met::Met;
 use seeded::nets::deepest;
 use std::fmt;
 use yarrowbeam::{LARGEST_DESCRIPTION, LARGEST_STATE};
 
-/// A kind, and what is of it: a call, a net, a description or a state.
+/// A kind, and what is of it: a call, one of its outputs, a net, a description or a state.
 #[derive(Clone, Copy, PartialEq, Eq, Hash)]
 pub struct Of(pub &'static str, pub Kind);
 
@@ -16,7 +17,7 @@ impl fmt::Display for Of {
     }
 }
 
-/// One kind of answer, of room for a state that is to be written, or of size.
+/// One kind of answer, of room for what is to be written, of head count, or of size.
 #[derive(Clone, Copy, PartialEq, Eq, Hash)]
 pub enum Kind {
     Wrote,
@@ -26,10 +27,11 @@ pub enum Kind {
     No,
     Refused(u32),
     Room(Room),
+    With(&'static str),
     Size(usize, &'static str),
 }
 
-/// The room beside the state's length.
+/// The room beside the length of what is to be written.
 #[derive(Clone, Copy, PartialEq, Eq, Hash)]
 pub enum Room {
     Zero,
@@ -65,25 +67,107 @@ impl fmt::Display for Kind {
             Kind::Room(Room::OneShort) => write!(f, "room one short"),
             Kind::Room(Room::Exact) => write!(f, "room exactly enough"),
             Kind::Room(Room::Larger) => write!(f, "room larger"),
+            Kind::With(what) => write!(f, "with {what}"),
             Kind::Size(size, of) => write!(f, "{size} {of}"),
         }
     }
 }
 
+/// The name of a call that comes after an accepted head count.
+pub fn after_count(call: &str) -> &'static str {
+    match call {
+        "fresh" => "after a count, fresh",
+        "record" => "after a count, record",
+        "judge" => "after a count, judge",
+        "known" => "after a count, known",
+        _ => "after a count, count",
+    }
+}
+
+/// What is wrong in a list of places: one is 0, above P, in a group, or there twice.
+fn faults(net: &Net, places: &[u8]) -> [bool; 4] {
+    let home = |place: u8| net.homes.get(usize::from(place).checked_sub(1)?);
+    [
+        places.contains(&0),
+        places.iter().any(|&place| usize::from(place) > net.places()),
+        places.iter().any(|&place| home(place).is_some_and(|&home| home != 0)),
+        (1..places.len()).any(|i| places[..i].contains(&places[i])),
+    ]
+}
+
+/// Kinds of lists of places.
+const LISTS: [(&str, fn(&Net, &[u8]) -> bool); 8] = [
+    ("no place", |_, places| places.is_empty()),
+    ("place 0 alone at fault", |net, places| faults(net, places) == [true, false, false, false]),
+    ("a place above P alone at fault", |net, places| faults(net, places) == [false, true, false, false]),
+    ("a place in a group alone at fault", |net, places| faults(net, places) == [false, false, true, false]),
+    ("a place twice alone at fault", |net, places| faults(net, places) == [false, false, false, true]),
+    ("more than 64 places", |_, places| places.len() > 64),
+    ("loose places rising", |net, places| places.len() > 1 && faults(net, places) == [false; 4] && places.is_sorted()),
+    ("loose places in another order", |net, places| faults(net, places) == [false; 4] && !places.is_sorted()),
+];
+
+/// Kinds of numbers of tokens, beside what the estimates add up to.
+const TOKENS: [(&str, fn(u32, u32) -> bool); 7] = [
+    ("one token less than the estimates", |estimated, n| estimated <= 65_535 && estimated.checked_sub(n) == Some(1)),
+    ("as many tokens as the estimates", |estimated, n| n == estimated && n <= 65_535),
+    ("tokens between", |estimated, n| estimated < n && n < 65_535),
+    ("65,535 tokens", |estimated, n| estimated < n && n == 65_535),
+    ("65,536 tokens", |estimated, n| estimated < n && n == 65_536),
+    ("4,294,967,295 tokens", |_, n| n == u32::MAX),
+    ("estimates above 65,535", |estimated, n| estimated > 65_535 && n <= 65_535),
+];
+
+/// Which of the two rooms of a head count are too short.
+pub const SHORT: [(&str, [bool; 2]); 3] = [
+    ("room short for the description alone", [true, false]),
+    ("room short for the state alone", [false, true]),
+    ("room short for both", [true, true]),
+];
+
+/// Counts what a head count is asked for, on a net and a state that were read.
+pub fn count_head_count(net: &Net, state: &State, places: &[u8], n: u32, met: &mut Met<Of>) {
+    for (name, _) in LISTS.iter().filter(|(_, is)| is(net, places)) {
+        met.count(Of("count", Kind::With(name)));
+    }
+    if places.is_empty() || faults(net, places) != [false; 4] {
+        return;
+    }
+    for (name, _) in TOKENS.iter().filter(|(_, is)| is(estimated(state, places), n)) {
+        met.count(Of("count", Kind::With(name)));
+    }
+    met.count(Of("count", Kind::Size(net.groups.len(), "groups")));
+}
+
 /// All that must be met, in the order in which it is printed.
 pub fn due() -> Vec<Of> {
     let refusals = |last: u32| (1..=last).map(Kind::Refused);
+    let refused = |refusals: &'static [u32]| refusals.iter().copied().map(Kind::Refused);
     let rooms = [Room::Zero, Room::Short, Room::OneShort, Room::Exact, Room::Larger].map(Kind::Room);
     let bounds = [(1, 64, "places"), (1, 64, "events"), (0, 32, "groups"), (0, 8, "deep"), (0, 16, "limits")];
+    let bytes = |size: usize| [Kind::Size(size, "bytes")].into_iter();
     let mut due = Vec::new();
     let mut add = |of, kinds: &mut dyn Iterator<Item = Kind>| due.extend(kinds.map(|kind| Of(of, kind)));
     add("fresh", &mut [Kind::Wrote].into_iter().chain(refusals(8)).chain([Kind::Refused(13)]).chain(rooms));
     add("record", &mut [Kind::Wrote].into_iter().chain(refusals(13)).chain(rooms));
     add("judge", &mut [Kind::Allow].into_iter().chain((1..=16).map(Kind::Hold)).chain(refusals(12)));
     add("known", &mut [Kind::Yes, Kind::No].into_iter().chain(refusals(9)));
+    add("count", &mut [Kind::Wrote].into_iter().chain(refusals(9)).chain(refused(&[13, 14, 15, 16])));
+    add("count", &mut LISTS.iter().map(|(name, _)| Kind::With(name)));
+    add("count", &mut TOKENS.iter().map(|(name, _)| Kind::With(name)));
+    add("count", &mut SHORT.iter().map(|(name, _)| Kind::With(name)));
+    add("count", &mut [0, 1, 31, 32].into_iter().map(|groups| Kind::Size(groups, "groups")));
+    add("count's description", &mut rooms.into_iter().chain(bytes(LARGEST_DESCRIPTION)));
+    add("count's state", &mut rooms.into_iter().chain(bytes(LARGEST_STATE)));
+    add(after_count("record"), &mut [Kind::Wrote].into_iter().chain(refused(&[9, 10, 11, 12, 13])));
+    add(after_count("judge"), &mut [Kind::Allow, Kind::Hold(1)].into_iter().chain(refused(&[9, 10, 11, 12])));
+    add(after_count("known"), &mut [Kind::Yes, Kind::No, Kind::Refused(9)].into_iter());
+    add(after_count("count"), &mut [Kind::Wrote].into_iter().chain(refused(&[9, 13, 14, 15, 16])));
+    add("list from fresh", &mut (1..=4).map(|counts| Kind::Size(counts, "head counts")));
+    add("list from a given state", &mut [Kind::With("a head count")].into_iter());
     add("net", &mut bounds.into_iter().flat_map(|(least, most, of)| [Kind::Size(least, of), Kind::Size(most, of)]));
-    add("description", &mut [Kind::Size(LARGEST_DESCRIPTION, "bytes")].into_iter());
-    add("state", &mut [Kind::Size(LARGEST_STATE, "bytes")].into_iter());
+    add("description", &mut bytes(LARGEST_DESCRIPTION));
+    add("state", &mut bytes(LARGEST_STATE));
     due
 }
 

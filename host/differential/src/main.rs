@@ -1,13 +1,14 @@
 //! Compares every call of the library with the reference: `differential [CASES [SEED]]`.
 //!
-//! A case is a description, a state and an event; each of the four calls is made with them. Prints how often each answer, room
-//! and size was met; exits with 1 at the first difference, or where one of them was never met.
+//! A case is a description, a state, an event and a head count; each of the five calls is made with them. Prints how often each
+//! answer, room and size was met; exits with 1 at the first difference, or where one of them was never met.
 
 mod compare;
+mod head_counts;
 mod kinds;
 
 use compare::{compare, Case};
-use kinds::{due, Of};
+use kinds::{due, Kind, Of};
 use reference::{write_description, write_state, Net, State};
 use seeded::damage::damaged;
 use seeded::met::Met;
@@ -19,58 +20,94 @@ use std::process::ExitCode;
 /// The cases of one net, one after the other.
 const CASES_OF_A_NET: usize = 8;
 
-/// A case of a net at a state: whole, or with faults.
-fn case(net: &Net, state: &State, event: u32, numbers: &mut Numbers) -> Case {
-    let mut description = write_description(net);
-    let mut bytes = write_state(state);
-    match numbers.within(1, 16) {
-        1..=3 => description = damaged(&description, numbers),
-        4..=5 => bytes = damaged(&bytes, numbers),
-        6 => {
-            description = damaged(&description, numbers);
-            bytes = damaged(&bytes, numbers);
-        }
-        7..=8 => {
-            let mut tight = net.clone();
-            nets::tighten(&mut tight, state, event, numbers);
-            description = write_description(&tight);
-        }
-        9 => {
-            let length = numbers.below(20);
-            let other = if numbers.one_in(2) { &mut description } else { &mut bytes };
-            *other = if numbers.one_in(2) { Vec::new() } else { numbers.bytes(length) };
-        }
-        _ => (),
+/// The list of calls that a net's cases make from fresh: the net and the state that the last accepted call left.
+struct List {
+    net: Net,
+    state: State,
+    /// How many head counts were accepted.
+    counted: usize,
+    /// Or does it go on from a state that was given?
+    from_fresh: bool,
+}
+
+impl List {
+    fn new(numbers: &mut Numbers) -> List {
+        let net = nets::net(numbers);
+        List { state: reference::fresh(&net), net, counted: 0, from_fresh: true }
     }
-    Case { description, state: bytes, event }
+
+    /// A case at this place in the list: whole, or with faults.
+    fn case(&self, numbers: &mut Numbers) -> Case {
+        let events = self.net.takes.len() as u32;
+        let event = match numbers.within(1, 24) {
+            1 => 0,
+            2 => events + 1,
+            3 => numbers.next() as u32,
+            _ => numbers.within(1, events),
+        };
+        let places = head_counts::places(&self.net, numbers);
+        let tokens = head_counts::tokens(&self.state, &places, numbers);
+        let mut description = write_description(&self.net);
+        let mut state = write_state(&self.state);
+        match numbers.within(1, 16) {
+            1..=3 => description = damaged(&description, numbers),
+            4..=5 => state = damaged(&state, numbers),
+            6 => {
+                description = damaged(&description, numbers);
+                state = damaged(&state, numbers);
+            }
+            7..=8 => {
+                let mut tight = self.net.clone();
+                nets::tighten(&mut tight, &self.state, event, numbers);
+                description = write_description(&tight);
+            }
+            9 => {
+                let length = numbers.below(20);
+                let other = if numbers.one_in(2) { &mut description } else { &mut state };
+                *other = if numbers.one_in(2) { Vec::new() } else { numbers.bytes(length) };
+            }
+            _ => (),
+        }
+        Case { description, state, event, places, tokens, counted: self.counted > 0 }
+    }
+
+    /// The event is recorded or the head count taken, so that histories come about.
+    fn go_on(&mut self, case: &Case, numbers: &mut Numbers, met: &mut Met<Of>) {
+        if numbers.one_in(2) {
+            if let Ok(after) = reference::record(&self.net, &self.state, case.event) {
+                self.state = after;
+            }
+        } else if let Ok((net, state)) = reference::count(&self.net, &self.state, &case.places, case.tokens) {
+            (self.net, self.state) = (net, state);
+            self.counted += 1;
+            if self.from_fresh {
+                met.count(Of("list from fresh", Kind::Size(self.counted, "head counts")));
+            } else {
+                met.count(Of("list from a given state", Kind::With("a head count")));
+            }
+        }
+    }
 }
 
 fn run(cases: u64, seed: u64, met: &mut Met<Of>) -> Result<(), String> {
     let mut numbers = Numbers(seed);
     for first in (0..cases).step_by(CASES_OF_A_NET) {
-        let net = nets::net(&mut numbers);
-        let events = net.takes.len() as u32;
-        let mut state = reference::fresh(&net);
+        let mut list = List::new(&mut numbers);
         for made in (first..cases).take(CASES_OF_A_NET) {
-            if numbers.one_in(4) {
-                state = nets::state(&net, &mut numbers);
+            if numbers.one_in(if list.net.groups.len() > 30 { 2 } else { 6 }) {
+                (list.state, list.from_fresh) = (nets::state(&list.net, &mut numbers), false);
             }
-            let event = match numbers.within(1, 24) {
-                1 => 0,
-                2 => events + 1,
-                3 => numbers.next() as u32,
-                _ => numbers.within(1, events),
-            };
-            let case = case(&net, &state, event, &mut numbers);
+            let case = list.case(&mut numbers);
             let compared = catch_unwind(AssertUnwindSafe(|| compare(&case, &mut numbers, met)));
             compared.unwrap_or_else(|_| Err("a panic".to_string())).map_err(|difference| {
-                let [description, state] = [&case.description, &case.state].map(|bytes| hex(bytes));
-                format!("case {made}: {difference}\ndescription {description}\nstate {state}\nevent {event}")
+                let [description, state, places] = [&case.description, &case.state, &case.places].map(|bytes| hex(bytes));
+                let (event, tokens) = (case.event, case.tokens);
+                format!(
+                    "case {made}: {difference}\ndescription {description}\nstate {state}\nevent {event}\n\
+                     places {places}\ntokens {tokens}"
+                )
             })?;
-            // What was recorded is the state of the next case, so that histories come about.
-            if let Ok(after) = reference::record(&net, &state, event) {
-                state = after;
-            }
+            list.go_on(&case, &mut numbers, met);
         }
     }
     Ok(())
@@ -89,7 +126,7 @@ fn main() -> ExitCode {
         return ExitCode::FAILURE;
     }
     let never = met.print(due());
-    println!("total: {cases} cases, {} calls, no difference", 4 * cases);
+    println!("total: {cases} cases, {} calls, no difference", 5 * cases);
     if !never.is_empty() {
         eprintln!("never met: {}", never.join(", "));
         return ExitCode::FAILURE;

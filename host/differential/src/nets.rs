@@ -13,17 +13,21 @@ struct Shape {
     limits: u32,
     /// How many of 8 places an event has an arc at, and a limit a term.
     filled: u32,
+    /// How many of 8 places are loose at least.
+    loose: u32,
     /// Groups stand in chains as deep as can be, and every number has its longest form.
     longest: bool,
 }
 
 /// The shape of the largest description.
-const LARGEST: Shape = Shape { places: 64, events: 64, groups: 32, depth: 8, limits: 16, filled: 8, longest: true };
+const LARGEST: Shape = Shape { places: 64, events: 64, groups: 32, depth: 8, limits: 16, filled: 8, loose: 0, longest: true };
 
 fn shape(numbers: &mut Numbers) -> Shape {
     let most = match numbers.within(1, 1_000) {
         1..=3 => return LARGEST,
-        4..=30 => LARGEST,
+        // so that a head count makes it the largest
+        4..=10 => return Shape { groups: 31, loose: 1, ..LARGEST },
+        11..=30 => LARGEST,
         31..=150 => Shape { places: 16, events: 12, groups: 12, ..LARGEST },
         _ => Shape { places: 6, events: 4, groups: 5, limits: 4, ..LARGEST },
     };
@@ -35,6 +39,7 @@ fn shape(numbers: &mut Numbers) -> Shape {
         // Hold numbers up to 16 are for small nets too.
         limits: if numbers.one_in(4) { 16 } else { numbers.within(0, most.limits) },
         filled: numbers.within(1, 8),
+        loose: numbers.pick(&[0, 0, 2, 4, 6, 8]),
         longest: false,
     };
     // A size at its bound, or one past it.
@@ -44,6 +49,8 @@ fn shape(numbers: &mut Numbers) -> Shape {
         3 => shape.groups = numbers.within(32, 33),
         4 => shape.limits = numbers.within(16, 17),
         5 => (shape.groups, shape.depth) = (numbers.within(9, 12), 9),
+        // with places for a head count
+        6..=8 => (shape.groups, shape.loose) = (numbers.within(31, 32), numbers.within(2, 8)),
         _ => (),
     }
     shape
@@ -54,8 +61,12 @@ pub fn net(numbers: &mut Numbers) -> Net {
     let shape = shape(numbers);
     let groups = groups(&shape, numbers);
     let first = if groups.is_empty() || !shape.longest && numbers.one_in(2) { 0 } else { 1 };
-    let homes = (0..shape.places as usize)
-        .map(|p| if shape.longest { 1 + p % groups.len() } else { numbers.within(first, groups.len() as u32) as usize })
+    let homes = (0..shape.places)
+        .map(|p| match if shape.longest { 1 + p % 8 } else { numbers.within(1, 8) } {
+            share if share <= shape.loose => 0,
+            _ if shape.longest => 1 + p as usize % groups.len(),
+            _ => numbers.within(first, groups.len() as u32) as usize,
+        })
         .collect();
     let mut net = Net { homes, groups, takes: Vec::new(), gives: Vec::new(), limits: Vec::new() };
     let counts = fitting(&net, shape.longest, numbers);
@@ -168,11 +179,13 @@ pub fn deepest(net: &Net) -> usize {
 
 /// A state that fits the net and that perhaps no history gave.
 pub fn state(net: &Net, numbers: &mut Numbers) -> State {
-    let longest = numbers.one_in(8);
+    // Few nets can have the longest state, or get it by a head count.
+    let longest = if net.groups.len() > 30 { !numbers.one_in(8) } else { numbers.one_in(8) };
     let high = numbers.pick(&[0, 1, 3, 3, 10, 300]);
     let estimates = (0..net.places())
         .map(|_| match numbers.within(1, 40) {
-            _ if longest => numbers.within(16_384, 65_535),
+            // of which 65,535 tokens leave as long a number unplaced
+            _ if longest => numbers.within(16_384, 49_151),
             1 => 65_535,
             2 => numbers.within(65_200, 65_535),
             3 => numbers.within(0, 65_535),

@@ -4,13 +4,13 @@
 
 use reference::journal::journal;
 use reference::number::{put_number, Bytes};
-use reference::{read_description, read_state, write_state};
+use reference::{read_description, read_state, write_description, write_state};
 use seeded::hex;
 use std::collections::BTreeSet;
 use std::fs;
 use std::io::Write;
 use std::process::{Command, Stdio};
-use yarrowbeam::{Refusal, LARGEST_STATE};
+use yarrowbeam::{Refusal, LARGEST_DESCRIPTION, LARGEST_STATE};
 
 const TOP: &str = concat!(env!("CARGO_MANIFEST_DIR"), "/../..");
 
@@ -35,13 +35,29 @@ fn number(word: &str) -> u32 {
 /// What a call asks: its words before the arrow.
 type Words<'a> = [&'a str];
 
-fn room(words: &Words) -> usize {
-    words.iter().position(|word| *word == "into").map_or(LARGEST_STATE, |at| number(words[at + 1]) as usize)
+/// What a call answers in words, and the description that is used from then on.
+type Answer = Result<(String, Vec<u8>), u32>;
+
+/// The rooms for a description and for a state; where there is one number behind `into`, it is the second.
+fn rooms(words: &Words) -> [usize; 2] {
+    let given = words.iter().position(|word| *word == "into").map_or(&[][..], |at| &words[at + 1..]);
+    match given {
+        [] => [LARGEST_DESCRIPTION, LARGEST_STATE],
+        [state] => [LARGEST_DESCRIPTION, number(state) as usize],
+        _ => [0, 1].map(|i| number(given[i]) as usize),
+    }
 }
 
-fn by_library(words: &Words, d: &[u8], s: &[u8]) -> Result<String, u32> {
-    let mut out = [0xA5; LARGEST_STATE];
-    let lent = &mut out[..room(words)];
+/// The places of a head count: the bytes behind `at`.
+fn places(words: &Words) -> Vec<u8> {
+    let listed: Vec<&str> = words[3..].iter().copied().take_while(|word| *word != "into").collect();
+    bytes(&listed.join(" ")).expect("bytes")
+}
+
+fn by_library(words: &Words, d: &[u8], s: &[u8]) -> Answer {
+    let (mut described, mut out) = ([0xA5; LARGEST_DESCRIPTION], [0xA5; LARGEST_STATE]);
+    let [room, state_room] = rooms(words);
+    let (described, lent) = (&mut described[..room], &mut out[..state_room]);
     let answer = match words {
         ["fresh", ..] => yarrowbeam::fresh(d, lent).map(|length| hex(&lent[..length])),
         ["record", event, ..] => yarrowbeam::record(d, s, number(event), lent).map(|length| hex(&lent[..length])),
@@ -50,29 +66,41 @@ fn by_library(words: &Words, d: &[u8], s: &[u8]) -> Result<String, u32> {
             yarrowbeam::Verdict::Hold(limit) => format!("hold {limit}"),
         }),
         ["known"] => yarrowbeam::known(d, s).map(|known| if known { "yes" } else { "no" }.to_string()),
+        ["count", n, "at", ..] => {
+            let written = yarrowbeam::count(d, s, &places(words), number(n), described, lent);
+            let (length, state_length) = written.map_err(Refusal::number)?;
+            return Ok((hex(&lent[..state_length]), described[..length].to_vec()));
+        }
         _ => panic!("no call: {words:?}"),
     };
-    answer.map_err(Refusal::number)
+    answer.map(|words| (words, d.to_vec())).map_err(Refusal::number)
 }
 
-fn by_reference(words: &Words, d: &[u8], s: &[u8]) -> Result<String, u32> {
+fn by_reference(words: &Words, d: &[u8], s: &[u8]) -> Answer {
+    let [room, state_room] = rooms(words);
     let written = |state| {
         let bytes = write_state(&state);
-        if bytes.len() <= room(words) { Ok(hex(&bytes)) } else { Err(13) }
+        if bytes.len() <= state_room { Ok(hex(&bytes)) } else { Err(13u32) }
     };
     let net = read_description(d)?;
     if words[0] == "fresh" {
-        return written(reference::fresh(&net));
+        return Ok((written(reference::fresh(&net))?, d.to_vec()));
     }
     let state = read_state(&net, s)?;
-    match words {
-        ["record", event, ..] => written(reference::record(&net, &state, number(event))?),
-        ["judge", event] => Ok(match reference::judge(&net, &state, number(event))? {
+    let answer = match words {
+        ["record", event, ..] => written(reference::record(&net, &state, number(event))?)?,
+        ["judge", event] => match reference::judge(&net, &state, number(event))? {
             reference::Verdict::Allow => "allow".to_string(),
             reference::Verdict::Hold(limit) => format!("hold {limit}"),
-        }),
-        _ => Ok(if reference::known(&net, &state) { "yes" } else { "no" }.to_string()),
-    }
+        },
+        ["count", n, "at", ..] => {
+            let (net, state) = reference::count(&net, &state, &places(words), number(n))?;
+            let described = write_description(&net);
+            return if described.len() <= room { Ok((written(state)?, described)) } else { Err(13) };
+        }
+        _ => if reference::known(&net, &state) { "yes" } else { "no" }.to_string(),
+    };
+    Ok((answer, d.to_vec()))
 }
 
 fn said(answer: Result<String, u32>) -> String {
@@ -110,33 +138,49 @@ fn signed(form: &[u8]) -> String {
 
 // ---- the examples
 
-/// An example as far as it is read: the description, the state that the last call left, and the refusals that were met.
+/// An example as far as it is read: the description and the state that the last call left, and the refusals that were met.
 #[derive(Default)]
 struct Example {
     description: Vec<u8>,
+    /// The description that a head count wrote, which the lines below it must show.
+    written: Option<Vec<u8>>,
     state: Vec<u8>,
     refusals: BTreeSet<String>,
 }
 
 impl Example {
+    /// The description stands here whole; where a head count wrote it, it is what was written.
+    fn described(&mut self) {
+        if let Some(written) = self.written.take() {
+            assert_eq!(hex(&self.description), hex(&written), "the description that a head count writes");
+        }
+    }
+
     /// A call, whose answer is shown.
     fn call(&mut self, asked: &str, shown: &str) {
+        self.described();
         let words: Vec<&str> = asked.split_whitespace().collect();
-        for (name, answer) in [("the library", by_library as fn(&Words, &[u8], &[u8]) -> _), ("the reference", by_reference)] {
-            assert_eq!(said(answer(&words, &self.description, &self.state)), shown, "{asked} by {name}");
-        }
-        if let (Some(state), "fresh" | "record") = (bytes(shown), words[0]) {
+        let [library, reference] = [by_library, by_reference].map(|by| by(&words, &self.description, &self.state));
+        assert_eq!(library, reference, "{asked} by the library and by the reference");
+        assert_eq!(said(library.clone().map(|(answer, _)| answer)), shown, "{asked}");
+        if let (Some(state), "fresh" | "record" | "count") = (bytes(shown), words[0]) {
             self.state = state;
         }
-        if shown.starts_with("refused") {
-            self.refusals.insert(shown.to_string());
+        match library {
+            Ok((_, description)) if words[0] == "count" => {
+                self.description.clear();
+                self.written = Some(description);
+            }
+            Ok(_) => (),
+            Err(_) => drop(self.refusals.insert(shown.to_string())),
         }
     }
 
     /// A description that stands in one line, and what fresh answers; all calls refuse it alike.
     fn whole(&mut self, description: Vec<u8>, shown: &str) {
         self.description = description;
-        let others: &[&str] = if shown.starts_with("refused") { &["record 1", "judge 1", "known"] } else { &[] };
+        let refused = shown.starts_with("refused");
+        let others: &[&str] = if refused { &["record 1", "judge 1", "known", "count 0 at 01"] } else { &[] };
         for call in [&["fresh"], others].concat() {
             self.call(call, shown);
         }
@@ -163,12 +207,14 @@ impl Example {
         let mut lines = lines.lines().map(|line| line.trim().split("  ").next().unwrap_or(""));
         while let Some(line) = lines.next() {
             if let Some(events) = line.strip_prefix("journal ") {
+                example.described();
                 let shown: String = lines.by_ref().map(|line| format!("{line}\n")).collect();
                 assert_eq!(printed(&example.description, &bytes(events).expect("bytes")), shown);
             } else {
                 example.line(line);
             }
         }
+        example.described();
         example
     }
 }
@@ -179,9 +225,9 @@ fn examples() {
     let blocks = page.split("```example\n").skip(1).map(|rest| rest.split("```").next().unwrap_or(rest));
     let examples: Vec<Example> = blocks.map(Example::read).collect();
     let met: BTreeSet<&String> = examples.iter().flat_map(|example| &example.refusals).collect();
-    let all: Vec<String> = (1..=13).map(|refusal| format!("refused {refusal}")).collect();
+    let all: Vec<String> = (1..=16).map(|refusal| format!("refused {refusal}")).collect();
     assert_eq!(met, all.iter().collect(), "each refusal has an example");
     let mut line = examples.into_iter().find(|example| !example.description.is_empty()).expect("an example of a net");
-    line.state = bytes(&said(by_reference(&["fresh"], &line.description, &[]))).expect("a state");
+    line.state = write_state(&reference::fresh(&read_description(&line.description).expect("a net")));
     text("host/test_c/expected").lines().for_each(|call| line.line(call));
 }

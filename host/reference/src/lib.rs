@@ -1,6 +1,7 @@
-//! The scope document in plain Rust: descriptions, states, recording, judging and the journal.
+//! The scope document in plain Rust: descriptions, states, recording, judging, head counts and the journal.
 //!
-//! It is written from the scope document alone and shares nothing with the proved code, so that the two can be compared.
+//! It is written from the scope document and the changes requested later alone, and shares nothing with the proved code, so that
+//! the two can be compared.
 //! It favours directness over speed: vectors, recursion, and sums over all places of a group.
 
 pub mod description;
@@ -9,7 +10,7 @@ pub mod number;
 pub mod observer;
 
 pub use description::{read_description, write_description, Net};
-pub use observer::{fresh, judge, known, read_state, record, write_state, State, Verdict};
+pub use observer::{count, fresh, judge, known, read_state, record, write_state, State, Verdict};
 
 /// "Number when the answer is no".
 pub type Refusal = u32;

@@ -1,10 +1,12 @@
 //! Yarrowbeam's proved observer, for Rust: the functions of `include/yarrowbeam.h` on slices.
 //!
 //! A description says what the net is, a saved state what is known of it. Both are bytes; README.md shows them for one net.
-//! No call keeps anything: the caller keeps the description and the state that the last accepted call wrote.
+//! No call keeps anything: the caller keeps the description and the state that the last accepted call wrote. After an accepted
+//! [`count`] both are new, and belong together.
 //!
-//! Every call ends on every input, and refuses bytes that are no description, no state or no event; [`Refusal`] says which
-//! refusal comes first. A call writes nothing but the first bytes of `out`, as many as it answers; a refusal writes nothing.
+//! Every call ends on every input, and refuses what is no description, no state, no event or no head count; [`Refusal`] says
+//! which refusal comes first. A call writes nothing but the first bytes of its outputs, as many as it answers; a refusal writes
+//! nothing.
 //! Calls may run in several threads at a time; none uses the heap, or more than [`LARGEST_STACK`] bytes of stack.
 //!
 //! The pool of three: three places in one group of 3, events that move a token from place 1 to 2, 2 to 3 and 3 to 1, and a
@@ -83,6 +85,39 @@ pub fn judge(description: &[u8], state: &[u8], event: u32) -> Result<Verdict, Re
 #[inline]
 pub fn known(description: &[u8], state: &[u8]) -> Result<bool, Refusal> {
     Ok(accepted(library::known(description, state))? == 1)
+}
+
+/// Takes a head count while running: these loose places, one in a byte and in any order, hold `n` tokens together now. They
+/// become a new outermost group, with the next number. Writes the description with that group to `described` and the state to
+/// `out`; from then on these two are used, and a copy that was saved before is void. In the new description `n` is what was
+/// counted now, not at the start, so that [`fresh`] on it is not the state that goes on.
+///
+/// Answers the bytes of the description and those of the state, or refusal 1 to 9 or 13 to 16.
+///
+/// ```
+/// use yarrowbeam::{count, LARGEST_DESCRIPTION, LARGEST_STATE};
+///
+/// // one loose place, at which two tokens were seen, and an event without arcs
+/// let (description, state) = ([1, 1, 1, 0, 1, 0, 1, 0], [1, 1, 2, 0]);
+/// let (mut described, mut out) = ([0; LARGEST_DESCRIPTION], [0; LARGEST_STATE]);
+/// let (length, state_length) = count(&description, &state, &[1], 5, &mut described, &mut out)?;
+/// // the place in a group of 5, and 3 of them not seen yet
+/// assert_eq!(described[..length], [1, 1, 1, 0, 1, 1, 5, 1, 0, 1, 0]);
+/// assert_eq!(out[..state_length], [1, 1, 2, 1, 3]);
+/// # Ok::<(), yarrowbeam::Refusal>(())
+/// ```
+#[inline]
+pub fn count(
+    description: &[u8],
+    state: &[u8],
+    places: &[u8],
+    n: u32,
+    described: &mut [u8],
+    out: &mut [u8],
+) -> Result<(usize, usize), Refusal> {
+    let answer = accepted(library::count(description, state, places, n, described, out))?;
+    // one number for both: the bytes of the description times 2^32, plus those of the state
+    Ok(((answer >> 32) as usize, answer as u32 as usize))
 }
 
 /// An answer from 0 up; one below 0 is a refusal, minus its number.

@@ -17,6 +17,19 @@ mod c {
         ) -> i64;
         pub fn judge(d: *const u8, d_length: usize, s: *const u8, s_length: usize, event: u32) -> i64;
         pub fn known(d: *const u8, d_length: usize, s: *const u8, s_length: usize) -> i64;
+        pub fn count(
+            d: *const u8,
+            d_length: usize,
+            s: *const u8,
+            s_length: usize,
+            places: *const u8,
+            places_length: usize,
+            n: u32,
+            described: *mut u8,
+            described_length: usize,
+            out: *mut u8,
+            out_length: usize,
+        ) -> i64;
     }
 }
 
@@ -42,4 +55,24 @@ pub fn judge(d: &[u8], s: &[u8], event: u32) -> i64 {
 pub fn known(d: &[u8], s: &[u8]) -> i64 {
     // SAFETY: both are slices, which are only read.
     unsafe { c::known(d.as_ptr(), d.len(), s.as_ptr(), s.len()) }
+}
+
+#[inline]
+pub fn count(d: &[u8], s: &[u8], places: &[u8], n: u32, described: &mut [u8], out: &mut [u8]) -> i64 {
+    // SAFETY: all five are slices, and `described` and `out`, being `&mut`, overlap no other; any number may be counted.
+    unsafe {
+        c::count(
+            d.as_ptr(),
+            d.len(),
+            s.as_ptr(),
+            s.len(),
+            places.as_ptr(),
+            places.len(),
+            n,
+            described.as_mut_ptr(),
+            described.len(),
+            out.as_mut_ptr(),
+            out.len(),
+        )
+    }
 }

@@ -3,7 +3,8 @@ use std::fmt;
 /// Why a call refuses.
 ///
 /// Of 1 to 8, the description's bytes are read forwards: the first fault that is met is answered, and of several at one number
-/// the lowest. Then 9 to 13 follow in order. A call skips those that do not concern it.
+/// the lowest. Then follow 9; of an event 10 to 12, of a head count 14 to 16; and 13 comes last. A call skips those that do not
+/// concern it.
 #[derive(Clone, Copy, Debug, PartialEq, Eq, PartialOrd, Ord, Hash)]
 pub enum Refusal {
     /// A stored number of the description is not complete, not in its shortest form or too large.
@@ -30,13 +31,19 @@ pub enum Refusal {
     Impossible = 11,
     /// The event is possible, and some estimate after it would be above 65,535.
     OverRange = 12,
-    /// The result does not fit the output.
+    /// A result does not fit its output.
     Room = 13,
+    /// The list of places is empty, or a byte of it names no loose place, or one for the second time.
+    NotLoose = 14,
+    /// The head count is below the sum of the estimates there, or above 65,535.
+    Miscounted = 15,
+    /// The head count would make a 33rd group.
+    NoGroupLeft = 16,
 }
 
 impl Refusal {
     /// All refusals, by number.
-    pub const ALL: [Refusal; 13] = [
+    pub const ALL: [Refusal; 16] = [
         Refusal::Number,
         Refusal::Edition,
         Refusal::Size,
@@ -50,18 +57,21 @@ impl Refusal {
         Refusal::Impossible,
         Refusal::OverRange,
         Refusal::Room,
+        Refusal::NotLoose,
+        Refusal::Miscounted,
+        Refusal::NoGroupLeft,
     ];
 
-    /// Its number, from 1 to 13.
+    /// Its number, from 1 to 16.
     pub fn number(self) -> u32 {
         self as u32
     }
 
-    /// The refusal with this number. The library is proved to answer no others than 1 to 13.
+    /// The refusal with this number. The library is proved to answer no others than 1 to 16.
     pub(crate) fn from_number(number: u64) -> Refusal {
         match number {
-            1..=13 => Refusal::ALL[number as usize - 1],
-            _ => panic!("the library answered refusal {number}, which is not from 1 to 13"),
+            1..=16 => Refusal::ALL[number as usize - 1],
+            _ => panic!("the library answered refusal {number}, which is not from 1 to 16"),
         }
     }
 
@@ -79,7 +89,10 @@ impl Refusal {
             Refusal::Event => "the event number is not one of the net's",
             Refusal::Impossible => "the event is impossible",
             Refusal::OverRange => "some estimate after the event would be above 65,535",
-            Refusal::Room => "the result does not fit the output",
+            Refusal::Room => "a result does not fit its output",
+            Refusal::NotLoose => "the list of places is empty, or a byte of it names no loose place, or one for the second time",
+            Refusal::Miscounted => "the head count is below the sum of the estimates there, or above 65,535",
+            Refusal::NoGroupLeft => "the head count would make a 33rd group",
         }
     }
 }

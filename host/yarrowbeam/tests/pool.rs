@@ -1,6 +1,6 @@
 //! The pool of three: every call, and every refusal.
 
-use yarrowbeam::{fresh, judge, known, record, Refusal, Verdict, LARGEST_STATE};
+use yarrowbeam::{count, fresh, judge, known, record, Refusal, Verdict, LARGEST_DESCRIPTION, LARGEST_STATE};
 
 const POOL: [u8; 39] = [
     0x01, 0x03, 0x03, 0x01, 0x01, 0x01, 0x03, 0x03, 0x00, 0x01, 0x00, 0x02, 0x00, 0x03, 0x02, 0x01, 0x01, 0x00, 0x02, 0x00, 0x01,
@@ -49,6 +49,9 @@ fn refusals_of_descriptions() {
         assert_eq!(record(&description, &FRESH, 1, &mut out), Err(refusal));
         assert_eq!(judge(&description, &FRESH, 1), Err(refusal));
         assert_eq!(known(&description, &FRESH), Err(refusal));
+        let mut described = [0xA5; 50];
+        assert_eq!(count(&description, &FRESH, &[1], 3, &mut described, &mut out), Err(refusal));
+        assert_eq!(described, [0xA5; 50]);
         assert_eq!(out, [0xA5; LARGEST_STATE]);
     }
 }
@@ -60,6 +63,7 @@ fn the_first_fault_that_is_met() {
     assert_eq!(record(&[0x01, 0x41], &[], 0, &mut []), Err(Refusal::Size));
     assert_eq!(judge(&[0x01, 0x41], &[], 0), Err(Refusal::Size));
     assert_eq!(known(&[0x01, 0x41], &[]), Err(Refusal::Size));
+    assert_eq!(count(&[0x01, 0x41], &[], &[], 0, &mut [], &mut []), Err(Refusal::Size));
     // place 0 after place 1 is out of range and out of order: at one number the lowest
     let mut description = POOL;
     description[11] = 0;
@@ -93,6 +97,70 @@ fn refusals_of_states_events_and_rooms() {
         assert_eq!(known(&POOL, state), if refusal == Refusal::State { Err(refusal) } else { Ok(state == placed) });
     }
     assert_eq!(fresh(&POOL, &mut [0; 6]), Err(Refusal::Room));
+}
+
+/// The pool with its places loose, and its state after event 1.
+fn loose_pool() -> (Vec<u8>, [u8; 6]) {
+    ([&POOL[..4], &[3], &POOL[8..]].concat(), [1, 3, 0, 1, 0, 0])
+}
+
+#[test]
+fn a_head_count() {
+    let (loose, state) = loose_pool();
+    assert_eq!(judge(&loose, &state, 2), Ok(Verdict::Hold(1)));
+    let (mut described, mut out) = ([0xA5; LARGEST_DESCRIPTION], [0xA5; LARGEST_STATE]);
+    // three in all: the new group is that of the pool, and two of its tokens were not seen at a place yet
+    assert_eq!(count(&loose, &state, &[3, 1, 2], 3, &mut described, &mut out), Ok((39, 7)));
+    assert_eq!(described[..39], POOL);
+    assert_eq!(described[39..], [0xA5; LARGEST_DESCRIPTION - 39]);
+    assert_eq!(out[..7], [1, 3, 0, 1, 0, 1, 2]);
+    assert_eq!(out[7..], [0xA5; LARGEST_STATE - 7]);
+    // what was counted is used from then on: nothing is left at place 1 once two more have come from there
+    let (described, mut state) = (&described[..39], out[..7].to_vec());
+    for expected in [[1, 3, 0, 2, 0, 1, 1], [1, 3, 0, 3, 0, 1, 0]] {
+        let mut after = [0; 7];
+        assert_eq!(record(described, &state, 1, &mut after), Ok(7));
+        assert_eq!(after, expected);
+        state = after.to_vec();
+    }
+    assert_eq!(known(described, &state), Ok(true));
+    assert_eq!(record(described, &state, 1, &mut out), Err(Refusal::Impossible));
+    // no place is loose any more, and a state from before the head count does not fit
+    assert_eq!(count(described, &state, &[1], 3, &mut [0; 60], &mut out), Err(Refusal::NotLoose));
+    assert_eq!(known(described, &loose_pool().1), Err(Refusal::State));
+}
+
+#[test]
+fn refusals_of_head_counts() {
+    let (loose, state) = loose_pool();
+    // place 2 in a group of 3, with one unplaced
+    let in_a_group = [&POOL[..4], &[3, 0, 1, 0, 3, 1, 3, 1, 0, 2], &POOL[14..]].concat();
+    // no token, and 32 groups
+    let full = [&POOL[..4], &[35], &POOL[8..14], &[1, 0, 0].repeat(32), &POOL[14..]].concat();
+    let in_full = [&[1, 3, 0, 0, 0, 32][..], &[0; 32]].concat();
+    let cases = [
+        (Refusal::State, &loose, &state[..5], &[1, 2][..], 3),
+        (Refusal::NotLoose, &loose, &state, &[], 3),
+        (Refusal::NotLoose, &loose, &state, &[0], 3),
+        (Refusal::NotLoose, &loose, &state, &[4], 3),
+        (Refusal::NotLoose, &loose, &state, &[1, 2, 1], 3),
+        (Refusal::NotLoose, &in_a_group, &[1, 3, 0, 1, 0, 1, 1], &[1, 2], 3),
+        (Refusal::Miscounted, &loose, &state, &[2], 0),
+        (Refusal::Miscounted, &loose, &state, &[2], 65_536),
+        (Refusal::NoGroupLeft, &full, &in_full, &[2], 0),
+    ];
+    for (refusal, description, state, places, n) in cases {
+        let (mut described, mut out) = ([0xA5; 200], [0xA5; LARGEST_STATE]);
+        assert_eq!(count(description, state, places, n, &mut described, &mut out), Err(refusal));
+        assert_eq!((described, out), ([0xA5; 200], [0xA5; LARGEST_STATE]));
+    }
+    for (rooms, answer) in [((39, 7), Ok((39, 7))), ((38, 7), Err(Refusal::Room)), ((39, 6), Err(Refusal::Room))] {
+        let (mut described, mut out) = ([0xA5; 39], [0xA5; 7]);
+        assert_eq!(count(&loose, &state, &[1, 2, 3], 3, &mut described[..rooms.0], &mut out[..rooms.1]), answer);
+        if answer.is_err() {
+            assert_eq!((described, out), ([0xA5; 39], [0xA5; 7]));
+        }
+    }
 }
 
 #[test]

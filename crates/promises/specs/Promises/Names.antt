@@ -6,10 +6,11 @@ pub use mathlib.Core.List.{List, [], _∷_, _++_}
 pub use mathlib.Core.Logic.{_↔_, _⊎_}
 pub use lib.IntN.{ℤ, pos}
 pub use lib.ListN.{length, drop}
-pub use Rattle.theory.specs.Nets.{SameNet, Marking, Fits}
-pub use Rattle.theory.specs.Firing.{Deed, fired, Same, Fires, Consistent, Able, FiredTo}
-pub use Rattle.theory.specs.Recording.{State, Alike, Within, fresh, next, unplaced, published}
+pub use Rattle.theory.specs.Nets.{SameNet, Marking, Fits, listedSum, recounted}
+pub use Rattle.theory.specs.Firing.{Deed, fired, Same, Fires, Consistent, Able, FiredTo, Countable}
+pub use Rattle.theory.specs.Recording.{State, Alike, Within, bound, fresh, next, afterCount, unplaced, published}
 pub use Rattle.theory.specs.Replies.{Reply, value, refusal, _>>=_}
+pub use Rattle.theory.specs.Answers.{looseSet}
 pub use Rattle.theory.specs.Calls.{Call, AllAllowed}
 pub use Rattle.theory.specs.Demands.{Demand2, Possible, Words, Demand3, WithinLimits, Stays}
 pub use Rattle.numbers.specs.declared.Read.the-variants.{Number}
@@ -20,7 +21,7 @@ pub use Rattle.codec.specs.declared.Wrote.{Wrote}
 pub use Rattle.codec.specs.declared.Wrote.the-variants.{Bytes}
 pub use Rattle.codec.specs.Reader.{passed, passedReply, readReply}
 pub use Rattle.codec.specs.Places.{placeAt, placeReply}
-pub use Rattle.codec.specs.Output.{answer, left, wroteReply, writtenReply}
+pub use Rattle.codec.specs.Output.{answer, left, wroteReply, writtenReply, Pair, bothAnswer, descriptionLeft, stateLeft, wroteBothReply}
 pub use Rattle.net.specs.declared.Net.{Net}
 pub use Rattle.net.specs.declared.Observer.{Observer}
 pub use Rattle.net.specs.declared.Checked.{Checked}
@@ -39,7 +40,7 @@ pub use Rattle.description.specs.Writing.{written}
 pub use Rattle.description.specs.Full.{Full}
 pub use Rattle.states.specs.States.Writing.{Fit}
 pub use Rattle.states.specs.States.Nets.{longestState, saved}
-pub use Rattle.observer.specs.Bytes.{described, stateIn, freshReply, recordReply, judgeReply, knownReply}
+pub use Rattle.observer.specs.Bytes.{described, stateIn, freshReply, recordReply, judgeReply, knownReply, countReply}
 pub use Rattle.values.specs.Values.{bothCheck, restoredObserver, observerOutput, recordedObserver, observerJudged, observerKnown, observerUnplaced, unplacedOf}
-pub use Rattle.host.specs.Numbers.{refusalNumber, wroteNumber, answerNumber}
-pub use Rattle.promises.specs.Lists.{onBytes, host, onValues, memory}
+pub use Rattle.host.specs.Numbers.{refusalNumber, wroteNumber, wroteBothNumber, answerNumber}
+pub use Rattle.promises.specs.Lists.{onBytes, host, keptDescription, keptState, onValues, memory}

@@ -1,12 +1,11 @@
 //! What the program must say of a case.
 
 use crate::Call;
-use reference::{fresh, judge, known, read_description, read_state, record, write_description, write_state};
+use reference::{count, fresh, judge, known, read_description, read_state, record, write_description, write_state};
 use reference::{Refusal, State, Verdict};
 
 /// What stands after the label. A call of the observer is answered twice, on bytes and on values in memory.
 pub fn said(d: &[u8], s: &[u8], call: Call, event: u32, room: u32) -> String {
-    let words = |answer: Result<String, Refusal>| answer.unwrap_or_else(|refusal| format!(" refused {refusal}"));
     match call {
         Call::Describe => words(described(d)),
         Call::Changed => changed(d, event as usize),
@@ -15,6 +14,20 @@ pub fn said(d: &[u8], s: &[u8], call: Call, event: u32, room: u32) -> String {
             format!("{answer} /{answer}")
         }
     }
+}
+
+/// What stands after the label of a head count, which is answered on bytes alone: the description and the state.
+pub fn counted(d: &[u8], s: &[u8], places: &[u8], tokens: u32, rooms: [u32; 2]) -> String {
+    let answer = || {
+        let net = read_description(d)?;
+        let (net, state) = count(&net, &read_state(&net, s)?, places, tokens)?;
+        Ok(format!("{},{}", fitting(&write_description(&net), rooms[0])?, written(&state, rooms[1])?))
+    };
+    words(answer())
+}
+
+fn words(answer: Result<String, Refusal>) -> String {
+    answer.unwrap_or_else(|refusal| format!(" refused {refusal}"))
 }
 
 fn described(d: &[u8]) -> Result<String, Refusal> {
@@ -51,7 +64,11 @@ fn answered(d: &[u8], s: &[u8], call: Call, event: u32, room: u32) -> Result<Str
 }
 
 fn written(state: &State, room: u32) -> Result<String, Refusal> {
-    let bytes = write_state(state);
+    fitting(&write_state(state), room)
+}
+
+/// The bytes, where there is room for them.
+fn fitting(bytes: &[u8], room: u32) -> Result<String, Refusal> {
     if bytes.len() > room as usize {
         return Err(13);
     }

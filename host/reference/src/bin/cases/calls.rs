@@ -6,7 +6,7 @@ use reference::description::{Group, Limit};
 use reference::{fresh, read_description, record, write_description, write_state, Net, State, POOL};
 
 /// More room than any state of the cases needs.
-const ROOM: u32 = 300;
+pub const ROOM: u32 = 300;
 
 /// The fresh state of the pool.
 const POOL_STATE: [u8; 7] = [0x01, 0x03, 0x00, 0x00, 0x00, 0x01, 0x03];
@@ -26,12 +26,12 @@ pub fn add(cases: &mut Cases) {
 
 impl Cases {
     /// Recording and judging an event at one state.
-    fn event(&mut self, label: &str, d: &[u8], s: &[u8], event: u32) {
+    pub fn event(&mut self, label: &str, d: &[u8], s: &[u8], event: u32) {
         self.add(&format!("{label}, record {event}"), d, s, Call::Record, event, ROOM);
         self.add(&format!("{label}, judge {event}"), d, s, Call::Judge, event, ROOM);
     }
 
-    fn known(&mut self, label: &str, d: &[u8], s: &[u8]) {
+    pub fn known(&mut self, label: &str, d: &[u8], s: &[u8]) {
         self.add(&format!("{label}, known"), d, s, Call::Known, 0, 0);
     }
 
@@ -61,7 +61,7 @@ fn described(net: &Net) -> Vec<u8> {
 type Arc = (usize, u32, u32);
 
 /// The description of places in groups, events by place, and limits.
-fn net(homes: &[usize], groups: &[(usize, u32)], events: &[&[Arc]], limits: &[(i64, &[(usize, i64)])]) -> Vec<u8> {
+pub fn net(homes: &[usize], groups: &[(usize, u32)], events: &[&[Arc]], limits: &[(i64, &[(usize, i64)])]) -> Vec<u8> {
     let row = |event: &[Arc], of: fn(&Arc) -> u32| {
         let mut row = vec![0; homes.len()];
         event.iter().for_each(|arc| row[arc.0 - 1] = of(arc));
@@ -81,7 +81,7 @@ fn net(homes: &[usize], groups: &[(usize, u32)], events: &[&[Arc]], limits: &[(i
     })
 }
 
-fn state(estimates: &[u32], unplaced: &[u32]) -> Vec<u8> {
+pub fn state(estimates: &[u32], unplaced: &[u32]) -> Vec<u8> {
     write_state(&State { estimates: estimates.to_vec(), unplaced: unplaced.to_vec() })
 }
 
@@ -231,6 +231,7 @@ fn refused_descriptions(cases: &mut Cases) {
         for call in [Call::Fresh, Call::Record, Call::Judge, Call::Known] {
             cases.add(&format!("description refused {refusal}, call {}", call as u32), &d, &[0x07], call, 0, 0);
         }
+        cases.count(&format!("description refused {refusal}, count"), &d, &[0x07], &[], 65_536, [0, 0]);
     }
 }
 

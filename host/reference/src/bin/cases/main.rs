@@ -1,11 +1,12 @@
 //! Writes the list of cases that the program `cases` reads, and what it must print: `cases STDIN STDOUT`.
 //!
-//! A case is a label, a description and a state, each after its length as a stored number, then the call, the event and the
-//! room. The answers are those of the reference.
+//! A case is a label, a description, a state and a list of places, each after its length as a stored number, then the call, the
+//! event or the tokens of a head count, and the rooms for a description and for a state. The answers are those of the reference.
 
 mod answers;
 mod calls;
 mod descriptions;
+mod head_counts;
 mod parts;
 mod random;
 
@@ -26,6 +27,7 @@ enum Call {
     Describe,
     /// How the description is refused with each value of one byte; the event is its position, from 0.
     Changed,
+    Count,
 }
 
 /// The list of cases so far, and a line for each.
@@ -38,14 +40,26 @@ struct Cases {
 impl Cases {
     /// A case, and the line that answers it.
     fn add(&mut self, label: &str, d: &[u8], s: &[u8], call: Call, event: u32, room: u32) {
-        for part in [label.as_bytes(), d, s] {
+        let said = answers::said(d, s, call, event, room);
+        self.put([label.as_bytes(), d, s, &[]], [call as u32, event, 0, room], &format!("{label}:{said}"));
+    }
+
+    /// A head count: so many tokens at the places.
+    fn count(&mut self, label: &str, d: &[u8], s: &[u8], places: &[u8], tokens: u32, rooms: [u32; 2]) {
+        let said = answers::counted(d, s, places, tokens, rooms);
+        let numbers = [Call::Count as u32, tokens, rooms[0], rooms[1]];
+        self.put([label.as_bytes(), d, s, places], numbers, &format!("{label}:{said}"));
+    }
+
+    fn put(&mut self, parts: [&[u8]; 4], numbers: [u32; 4], line: &str) {
+        for part in parts {
             put_number(&mut self.input, part.len() as u32);
             self.input.extend_from_slice(part);
         }
-        for n in [call as u32, event, room] {
+        for n in numbers {
             put_number(&mut self.input, n);
         }
-        writeln!(self.output, "{label}:{}", answers::said(d, s, call, event, room)).unwrap();
+        writeln!(self.output, "{line}").unwrap();
     }
 }
 
@@ -53,6 +67,7 @@ fn main() {
     let mut cases = Cases::default();
     descriptions::add(&mut cases);
     calls::add(&mut cases);
+    head_counts::add(&mut cases);
     let mut files = std::env::args().skip(1);
     let mut file = || files.next().expect("cases STDIN STDOUT");
     assert!(cases.input.len() <= LONGEST, "{} bytes", cases.input.len());

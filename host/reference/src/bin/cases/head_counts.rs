@@ -1,0 +1,100 @@
+//! The cases of head counts.
+
+use crate::calls::{net, state, ROOM};
+use crate::Cases;
+use reference::{count, fresh, read_description, record, write_description, write_state};
+
+pub fn add(cases: &mut Cases) {
+    accepted(cases);
+    refused(cases);
+    rooms(cases);
+    groups(cases);
+    one_after_the_other(cases);
+}
+
+/// The places 1, 2 and 4 are loose; place 3 lies in a group, and place 5 in one inside it.
+fn carts() -> Vec<u8> {
+    net(
+        &[0, 0, 1, 0, 2],
+        &[(0, 5), (1, 2)],
+        &[&[(1, 1, 0), (4, 0, 1)], &[(4, 1, 0), (5, 0, 1)], &[(2, 1, 3)]],
+        &[(4, &[(2, 1), (4, 2)])],
+    )
+}
+
+/// After a cart came to place 4.
+fn one_seen() -> Vec<u8> {
+    state(&[0, 0, 0, 1, 0], &[5, 2])
+}
+
+/// A state that no list of calls gave.
+fn given() -> Vec<u8> {
+    state(&[65_000, 65_535, 7, 400, 9], &[65_535, 65_535])
+}
+
+impl Cases {
+    fn counts(&mut self, label: &str, d: &[u8], s: &[u8], asked: &[(&[u8], u32)]) {
+        for &(places, tokens) in asked {
+            self.count(&format!("{label}, count {tokens} at {places:?}"), d, s, places, tokens, [ROOM, ROOM]);
+        }
+    }
+}
+
+/// Lists in any order, and numbers of one, two and three bytes from the estimates up to the bound.
+fn accepted(cases: &mut Cases) {
+    cases.counts(
+        "carts",
+        &carts(),
+        &one_seen(),
+        &[(&[1], 0), (&[4], 1), (&[4], 127), (&[4], 128), (&[4, 1], 129), (&[1, 4], 16_384), (&[4, 2, 1], 65_535)],
+    );
+    cases.counts("carts at a given state", &carts(), &given(), &[(&[2], 65_535), (&[4, 1], 65_400), (&[1, 4], 65_535)]);
+}
+
+fn refused(cases: &mut Cases) {
+    let (d, s) = (carts(), one_seen());
+    cases.counts("carts, no state", &d, &[], &[(&[], 65_536)]);
+    cases.counts("carts, a state cut short", &d, &s[..s.len() - 1], &[(&[], 65_536)]);
+    cases.counts("carts", &d, &s, &[(&[], 3), (&[0], 3), (&[6], 3), (&[255, 1], 3), (&[1, 4, 1], 3), (&[3], 3), (&[1, 5], 65_536)]);
+    cases.count("carts, count at all places 13 times", &d, &s, &[1, 2, 3, 4, 5].repeat(13), 3, [ROOM, ROOM]);
+    cases.counts("carts", &d, &s, &[(&[4], 0), (&[1, 4], 65_536), (&[1], 4_294_967_295)]);
+    cases.counts("carts at a given state", &d, &given(), &[(&[2], 65_534), (&[1, 2], 65_535), (&[1, 2, 4], 0)]);
+}
+
+/// How much room there is for the description and for the state: three bytes more and one more than before.
+fn rooms(cases: &mut Cases) {
+    let (d, s) = (carts(), one_seen());
+    let (enough, enough_of_state) = (d.len() as u32 + 3, s.len() as u32 + 1);
+    for rooms in [[enough, enough_of_state], [enough - 1, enough_of_state], [enough, enough_of_state - 1], [0, ROOM], [ROOM, 0], [0, 0]] {
+        cases.count(&format!("carts, count in {rooms:?}"), &d, &s, &[1, 4], 3, rooms);
+    }
+}
+
+/// A 32nd group, and a 33rd.
+fn groups(cases: &mut Cases) {
+    for number in [31, 32] {
+        let d = net(&[0, 0], &vec![(0, 0); number], &[&[]], &[]);
+        let s = state(&[0, 1], &vec![0; number]);
+        cases.counts(&format!("{number} groups"), &d, &s, &[(&[2], 7), (&[2], 0), (&[], 0)]);
+        cases.count(&format!("{number} groups, count in nothing"), &d, &s, &[2], 7, [0, 0]);
+    }
+}
+
+/// Two head counts and events between them, from fresh: each call gets what the one before it left.
+fn one_after_the_other(cases: &mut Cases) {
+    let mut net = read_description(&carts()).unwrap();
+    let mut state = fresh(&net);
+    for (event, places, tokens) in [(1, &[4, 1][..], 4), (2, &[2], 3), (3, &[1], 1)] {
+        let (d, s) = (write_description(&net), write_state(&state));
+        cases.event("carts in turn", &d, &s, event);
+        if let Ok(next) = record(&net, &state, event) {
+            state = next;
+        }
+        let s = write_state(&state);
+        cases.counts("carts in turn", &d, &s, &[(places, tokens)]);
+        if let Ok(next) = count(&net, &state, places, tokens) {
+            (net, state) = next;
+        }
+        cases.known("carts in turn", &write_description(&net), &write_state(&state));
+    }
+}
