@@ -18,22 +18,24 @@
  *      9  the state is not well formed or does not fit the net
  *     10  the event number is not one of the net's, which are counted from 1
  *     11  the event is impossible
- *     12  the event is possible, and some estimate after it would be above 65,535
+ *     12  the event is possible, and some estimate after it would be above 16,777,215
  *     13  a result does not fit its output
  *     14  the list of places is empty, or a byte of it names no loose place, or one for the second time
- *     15  the head count is below the sum of the estimates there, or above 65,535
+ *     15  the head count is below the sum of the estimates there, or above 16,777,215
  *     16  the head count would make a 33rd group
+ *     17  some estimate or unplaced number of the state is above 65,535, which older observers do not read
  *
  * Of 1 to 8, the description's bytes are read forwards: the first fault that is met is answered, and of several at one
  * number the lowest. So the bytes 01 41 answer 3, for 65 places, though the number after them is missing. Then follow 9;
- * of an event 10 to 12, of a head count 14 to 16; and 13 comes last. A call skips those that do not concern it.
+ * of an event 10 to 12, of a head count 14 to 16, of a state for older observers 17; and 13 comes last. A call skips those
+ * that do not concern it.
  *
  * What the host owes:
  *   - All bytes below a length can be read (of an output: and written), and nobody else writes them during the call. Where
  *     the length is 0 the pointer may be null.
- *   - An output overlaps no input and no other output; but `record` and `count` read all of s before they write anything,
- *     so their `out` may be s itself: the same pointer, and the two lengths may differ. `described` may not be d itself: it
- *     is copied from d piece by piece.
+ *   - An output overlaps no input and no other output; but `record`, `count` and `older` read all of s before they write
+ *     anything, so their `out` may be s itself: the same pointer, and the two lengths may differ. `described` may not be d
+ *     itself: it is copied from d piece by piece.
  *
  * What the host can count on:
  *   - A call writes nothing but the first bytes of an output, as many as it answers; a refusal writes nothing.
@@ -50,8 +52,8 @@
 #include <stdint.h>
 
 /* The lengths of the largest description and of the largest state: a buffer of so many bytes is enough for any. */
-#define YARROWBEAM_LARGEST_DESCRIPTION 24005
-#define YARROWBEAM_LARGEST_STATE 291
+#define YARROWBEAM_LARGEST_DESCRIPTION 24037
+#define YARROWBEAM_LARGEST_STATE 387
 
 /* The most bytes of stack that a call uses: 6 KiB. */
 #define YARROWBEAM_LARGEST_STACK 6144
@@ -84,6 +86,11 @@ int64_t known(const uint8_t *d, size_t d_length, const uint8_t *s, size_t s_leng
 int64_t count(const uint8_t *d, size_t d_length, const uint8_t *s, size_t s_length,
               const uint8_t *places, size_t places_length, uint32_t n,
               uint8_t *described, size_t described_length, uint8_t *out, size_t out_length);
+
+/* Writes the same state in edition 1 for older observers, whose counts, estimates and unplaced numbers end at 65,535; no
+ * number is changed. The counts of d are not asked: an older observer refuses a description that has a larger one.
+ * Answers the number of bytes written, or a refusal: 1 to 9, 13, 17. */
+int64_t older(const uint8_t *d, size_t d_length, const uint8_t *s, size_t s_length, uint8_t *out, size_t out_length);
 
 #ifdef __cplusplus
 }

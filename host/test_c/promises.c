@@ -72,10 +72,15 @@ static void make_deep(Net *net, uint32_t loose) {
     }
 }
 
-static void make_pool(Net *net) {
-    memcpy(net->d, pool, sizeof pool);
-    net->length = sizeof pool;
+/* The pool with another count. */
+static void make_pool_of(Net *net, uint32_t count) {
+    enum { BEFORE = 6, AFTER = sizeof pool - BEFORE - 1 };
+    memcpy(net->d, pool, BEFORE);
+    net->length = BEFORE;
     net->events = 3;
+    put(net, count);
+    memcpy(net->d + net->length, pool + BEFORE + 1, AFTER);
+    net->length += AFTER;
 }
 
 /* Two loose places, an event without arcs, and so many groups without place or token. */
@@ -110,6 +115,7 @@ static void order(void) {
     ANSWERS(judge(sizes, 2, s, 0, 0), -3);
     ANSWERS(known(sizes, 2, s, 0), -3);
     ANSWERS(count(sizes, 2, s, 0, s, 0, 0, out, 0, out, 0), -3);
+    ANSWERS(older(sizes, 2, s, 0, out, 0), -3);
     /* place 0 after place 1: out of range, and out of order */
     memcpy(place, pool, sizeof pool);
     place[11] = 0;
@@ -137,12 +143,36 @@ static void order_of_count(void) {
         memset(out, 0xA5, sizeof out);
         expect("count with faults",
                count(net->d, net->length - (faults & DESCRIPTION ? 1 : 0), s, length - (faults & STATE ? 1 : 0),
-                     faults & LIST ? twice : good, faults & LIST ? 3 : 2, faults & NUMBER ? 65536 : 5,
+                     faults & LIST ? twice : good, faults & LIST ? 3 : 2, faults & NUMBER ? 16777216 : 5,
                      described, net->length + (faults & DESCRIBED ? 2 : 3), out, length + (faults & OUT ? 0 : 1)),
                expected);
         size_t rest = faults ? 0 : net->length + 3, rest_of_out = faults ? 0 : length + 1;
         expect("count wrote too much", all_are(described + rest, sizeof described - rest, 0xA5), 1);
         expect("count wrote too much of the state", all_are(out + rest_of_out, sizeof out - rest_of_out, 0xA5), 1);
+    }
+}
+
+/* Every choice of faults in a state for older observers: the first question that fails is answered, and nothing is written. A
+ * count that is too large for them is no fault. */
+static void order_of_older(void) {
+    enum { DESCRIPTION = 1, STATE = 2, ESTIMATE = 4, UNPLACED = 8, OUT = 16, COUNT = 32, CHOICES = 64 };
+    for (int chosen = 0; chosen < CHOICES; chosen++) {
+        static Net net, state;
+        uint8_t out[ROOM];
+        make_pool_of(&net, chosen & COUNT ? 16777215 : 65535);
+        state.length = 0;
+        PUT(&state, 1, 3, 0, chosen & ESTIMATE ? 65536 : 65535, 0, 1, chosen & UNPLACED ? 65536 : 65535);
+        size_t length = state.length;
+        int64_t expected = chosen & DESCRIPTION ? -1 : chosen & STATE ? -9 : chosen & (ESTIMATE | UNPLACED) ? -17
+                         : chosen & OUT ? -13 : (int64_t)length;
+        memset(out, 0xA5, sizeof out);
+        expect("older with faults",
+               older(net.d, net.length - (chosen & DESCRIPTION ? 1 : 0), state.d, length - (chosen & STATE ? 1 : 0), out,
+                     length - (chosen & OUT ? 1 : 0)),
+               expected);
+        size_t written = expected > 0 ? length : 0;
+        expect("older, other bytes", memcmp(out, state.d, written) != 0, 0);
+        expect("older wrote too much", all_are(out + written, sizeof out - written, 0xA5), 1);
     }
 }
 
@@ -165,6 +195,11 @@ static void null_pointers(void) {
     ANSWERS(known(NULL, 0, NULL, 0), -1);
     ANSWERS(known(NULL, 0, s, 7), -1);
     ANSWERS(known(pool, sizeof pool, NULL, 0), -9);
+    ANSWERS(older(NULL, 0, NULL, 0, NULL, 0), -1);
+    ANSWERS(older(NULL, 0, s, 7, out, 7), -1);
+    ANSWERS(older(pool, sizeof pool, NULL, 0, NULL, 0), -9);
+    ANSWERS(older(pool, sizeof pool, NULL, 0, out, 7), -9);
+    ANSWERS(older(pool, sizeof pool, s, 7, NULL, 0), -13);
 }
 
 /* The same of count, on the pool with its places loose, after event 1. */
@@ -186,7 +221,7 @@ static void null_pointers_of_count(void) {
     expect("count, the state", memcmp(out, after, 7), 0);
 }
 
-/* ---- recording and counting in place */
+/* ---- recording, counting and writing for older observers in place */
 
 /* Records an event from s, of this length, to other bytes and to s itself, with this room: the same answer and the same bytes. */
 static int64_t record_twice(const Net *net, uint8_t s[ROOM], size_t length, uint32_t event, size_t room) {
@@ -214,6 +249,17 @@ static void count_twice(const Net *net, uint8_t s[ROOM], size_t length, uint8_t 
     expect("count in place, another description", memcmp(described[0], described[1], LONGEST) != 0, 0);
 }
 
+/* The state for older observers from s, of this length, to other bytes and to s itself: the same answer and the same bytes. */
+static void older_twice(const Net *net, uint8_t s[ROOM], size_t length, size_t room) {
+    uint8_t same[ROOM], expected[ROOM], in_place[ROOM];
+    memcpy(in_place, s, ROOM);
+    memcpy(expected, s, ROOM);
+    int64_t answer = older(net->d, net->length, s, length, same, room);
+    if (answer > 0) memcpy(expected, same, (size_t)answer);
+    expect("older in place", older(net->d, net->length, in_place, length, in_place, room), answer);
+    expect("older in place, other bytes", memcmp(in_place, expected, ROOM) != 0, 0);
+}
+
 static void in_place(const Net *net) {
     uint8_t s[ROOM];
     memset(s, 0xA5, ROOM);
@@ -225,7 +271,8 @@ static void in_place(const Net *net) {
         if (answer < 0) answer = record_twice(net, s, length, event, length);
         if (answer < 0) answer = record_twice(net, s, length, event, ROOM);
         if (answer > 0) length = (size_t)answer;
-        count_twice(net, s, length, (uint8_t)(1 + i % 8), 1000 * (i % 66), length + i % 4);
+        count_twice(net, s, length, (uint8_t)(1 + i % 8), 250000 * (i % 68), length + i % 5);
+        older_twice(net, s, length, length + 1 - i % 3);
     }
 }
 
@@ -234,14 +281,14 @@ static void in_place(const Net *net) {
 enum { THREADS = 8, STEPS = 2000 };
 
 /* The walk of a thread over its own events: judges and counts at the state that all threads share, and records at one of its
- * own. */
+ * own, which it writes for older observers too. */
 typedef struct {
     const Net *net;
     const uint8_t *shared;
     size_t length;
     uint32_t start;
-    int64_t answers[STEPS][4];
-    uint8_t s[ROOM], counted[ROOM], described[LONGEST];
+    int64_t answers[STEPS][5];
+    uint8_t s[ROOM], counted[ROOM], same[ROOM], described[LONGEST];
 } Walk;
 
 static pthread_barrier_t barrier;
@@ -250,6 +297,7 @@ static void walk(Walk *w) {
     const Net *net = w->net;
     memset(w->s, 0, ROOM);
     memset(w->counted, 0, ROOM);
+    memset(w->same, 0, ROOM);
     memset(w->described, 0, LONGEST);
     size_t length = (size_t)fresh(net->d, net->length, w->s, ROOM);
     for (uint32_t i = 0; i < STEPS; i++) {
@@ -261,6 +309,7 @@ static void walk(Walk *w) {
         uint8_t places[] = {(uint8_t)(1 + i % 8), (uint8_t)(1 + event % 8)};
         w->answers[i][3] = count(net->d, net->length, w->shared, w->length, places, 2, w->start + i, w->described, LONGEST,
                                  w->counted, ROOM);
+        w->answers[i][4] = older(net->d, net->length, w->s, length, w->same, ROOM);
     }
 }
 
@@ -287,6 +336,7 @@ static void threads(const Net *net) {
         expect("answers in a thread", memcmp(together[t].answers, alone[t].answers, sizeof alone[t].answers) != 0, 0);
         expect("the state in a thread", memcmp(together[t].s, alone[t].s, ROOM) != 0, 0);
         expect("the state counted in a thread", memcmp(together[t].counted, alone[t].counted, ROOM) != 0, 0);
+        expect("the state for older observers in a thread", memcmp(together[t].same, alone[t].same, ROOM) != 0, 0);
         expect("the description in a thread", memcmp(together[t].described, alone[t].described, LONGEST) != 0, 0);
     }
 }
@@ -299,26 +349,27 @@ enum { PAINT = 0xA5, PAGE = 4096, STACK = (PTHREAD_STACK_MIN + YARROWBEAM_LARGES
 
 static _Alignas(PAGE) uint8_t stack[STACK];
 static const Net *stack_net;
-static uint8_t stack_state[ROOM];
+static uint8_t stack_state[ROOM], stack_out[ROOM];
 static size_t stack_length, stack_used;
 
-static void call_fresh(void) {
-    uint8_t out[1];
-    fresh(stack_net->d, stack_net->length, out, 0);
-    fresh(stack_net->d, stack_net->length, stack_state, ROOM);
+static int64_t call_fresh_without_room(void) { return fresh(stack_net->d, stack_net->length, stack_out, 0); }
+static int64_t call_fresh(void) { return fresh(stack_net->d, stack_net->length, stack_out, ROOM); }
+static int64_t call_record(void) {
+    return record(stack_net->d, stack_net->length, stack_state, stack_length, 1, stack_out, ROOM);
 }
-static void call_record(void) {
-    record(stack_net->d, stack_net->length, stack_state, stack_length, 1, stack_state, ROOM);
-}
-static void call_judge(void) { judge(stack_net->d, stack_net->length, stack_state, stack_length, 2); }
-static void call_known(void) { known(stack_net->d, stack_net->length, stack_state, stack_length); }
-static void call_count(void) {
+static int64_t call_judge(void) { return judge(stack_net->d, stack_net->length, stack_state, stack_length, 2); }
+static int64_t call_known(void) { return known(stack_net->d, stack_net->length, stack_state, stack_length); }
+static int64_t call_count(void) {
     static const uint8_t places[] = {8, 7, 6, 5, 4, 3, 2, 1};
-    static uint8_t described[LONGEST], out[ROOM];
-    count(stack_net->d, stack_net->length, stack_state, stack_length, places, 8, 65535, described, LONGEST, out, ROOM);
+    static uint8_t described[LONGEST];
+    return count(stack_net->d, stack_net->length, stack_state, stack_length, places, 8, 16777215, described, LONGEST,
+                 stack_out, ROOM);
+}
+static int64_t call_older(void) {
+    return older(stack_net->d, stack_net->length, stack_state, stack_length, stack_out, ROOM);
 }
 
-static void (*stack_call)(void);
+static int64_t (*stack_call)(void);
 
 /* Makes the call on the painted stack, and looks how far down the paint is gone. This frame is counted too. */
 static void *stack_thread(void *unused) {
@@ -330,11 +381,12 @@ static void *stack_thread(void *unused) {
     return unused;
 }
 
-static void stack_of(const char *name, void (*call)(void)) {
+static void stack_of(const char *name, int64_t (*call)(void), int64_t refusal) {
     pthread_attr_t attributes;
     pthread_t id;
     /* once on this stack, so that the dynamic linker has found memcpy and memset */
-    call();
+    int64_t answer = call();
+    expect(name, answer < 0 ? answer : 0, refusal);
     memset(stack, PAINT, STACK);
     stack_call = call;
     pthread_attr_init(&attributes);
@@ -348,29 +400,32 @@ static void stack_of(const char *name, void (*call)(void)) {
     }
 }
 
-static void stacks(const Net *net) {
+static void stacks(const Net *net, int64_t refusal_of_count) {
     stack_net = net;
     stack_length = (size_t)fresh(net->d, net->length, stack_state, ROOM);
-    stack_of("fresh", call_fresh);
-    stack_of("record", call_record);
-    stack_of("judge", call_judge);
-    stack_of("known", call_known);
-    stack_of("count", call_count);
+    stack_of("fresh without room", call_fresh_without_room, -13);
+    stack_of("fresh", call_fresh, 0);
+    stack_of("record", call_record, 0);
+    stack_of("judge", call_judge, 0);
+    stack_of("known", call_known, 0);
+    stack_of("count", call_count, refusal_of_count);
+    stack_of("older", call_older, 0);
 }
 
 #else
 
-static void stacks(const Net *net) { (void)net; }
+static void stacks(const Net *net, int64_t refusal_of_count) { (void)net, (void)refusal_of_count; }
 
 #endif
 
 int main(void) {
     static Net nets[3];
-    make_pool(&nets[0]);
+    make_pool_of(&nets[0], 3);
     make_deep(&nets[1], 0);
     make_deep(&nets[2], 1);
     order();
     order_of_count();
+    order_of_older();
     null_pointers();
     null_pointers_of_count();
     for (int i = 0; i < 3; i++) {
@@ -378,7 +433,8 @@ int main(void) {
         expect("the net is good", fresh(nets[i].d, nets[i].length, s, ROOM) > 0, 1);
         in_place(&nets[i]);
         threads(&nets[i]);
-        stacks(&nets[i]);
+        /* the last net alone has loose places */
+        stacks(&nets[i], i == 2 ? 0 : -14);
     }
     return broken;
 }

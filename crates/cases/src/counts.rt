@@ -10,12 +10,12 @@ pub fn answers<'a>(
     room: usize,
 ) {
     // more than the description that a case writes, and more than its state
-    let mut described_space = [0u8; 300];
-    let mut space = [0u8; 300];
-    if 300 < described_room {
+    let mut described_space = [0u8; 400];
+    let mut space = [0u8; 400];
+    if 400 < described_room {
         return;
     }
-    if 300 < room {
+    if 400 < room {
         return;
     }
     let described = &mut described_space[0..described_room];

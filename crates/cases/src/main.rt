@@ -4,6 +4,7 @@ mod calls;
 mod counts;
 mod descriptions;
 mod input;
+mod older;
 mod words;
 
 use input::after;
@@ -27,6 +28,8 @@ const DESCRIBE: u32 = 5;
 const CHANGED: u32 = 6;
 
 const COUNT: u32 = 7;
+
+const OLDER: u32 = 8;
 
 fn main() {
     // more than the list of cases has
@@ -86,6 +89,7 @@ fn answer<'a>(
         DESCRIBE => descriptions::describe(d),
         CHANGED => descriptions::changed(d, event as usize),
         COUNT => counts::answers(d, s, places, event, described_room, room),
+        OLDER => older::answers(d, s, room),
         _ => calls::answers(d, s, call, event, room),
     }
 }

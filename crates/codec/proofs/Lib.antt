@@ -7,3 +7,4 @@ pub mod Walk
 pub mod Measured
 pub mod Both
 pub mod Longest
+pub mod Wider

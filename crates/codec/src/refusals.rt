@@ -32,3 +32,5 @@ pub const NOT_LOOSE: u32 = 14;
 pub const MISCOUNTED: u32 = 15;
 // Is there a group left for a head count?
 pub const NO_GROUP_LEFT: u32 = 16;
+// Are all numbers of a state within the bound of older observers?
+pub const TOO_LARGE: u32 = 17;

@@ -9,7 +9,7 @@ ghost use mathlib.Core.Path.{_≡_};
 ghost use lib.ListN.{length};
 ghost use Rattle.codec.specs.Output.{answer, left, bothAnswer, descriptionLeft, stateLeft};
 ghost use Rattle.net.specs.Answers.{answerOf, knownOf};
-ghost use Rattle.observer.specs.Bytes.{freshReply, recordReply, knownReply, judgeReply, countReply};
+ghost use Rattle.observer.specs.Bytes.{freshReply, recordReply, knownReply, judgeReply, countReply, olderReply};
 ghost use Rattle.host.specs.Numbers.{Countable, BothCountable, refusalNumber, wroteNumber, wroteBothNumber, answerNumber, knownNumber};
 
 // Writes the fresh state of the net that the bytes describe, if it fits the output: the number of
@@ -80,6 +80,17 @@ pub extern "C" fn count<'a>(
 {
     let wrote = observer::count(d, s, places, tokens, described, out);
     both_number(wrote)
+}
+
+// Writes the same state for older observers, if it fits the output: the number of bytes. A refusal
+// writes nothing.
+#[no_mangle]
+pub extern "C" fn older<'a>(d: &'a [u8], s: &'a [u8], out: &mut [u8]) -> i64
+    ensures answer { λ r. ⌜ r ≡ wroteNumber (answer (length (now (out .entry))) (olderReply (now (d .entry)) (now (s .entry)))) ⌝ }
+    ensures output { λ _. ⌜ now (out .exit) ≡ left (now (out .entry)) (olderReply (now (d .entry)) (now (s .entry))) ⌝ }
+{
+    let wrote = observer::older(d, s, out);
+    wrote_number(wrote)
 }
 
 // What a call that writes answers, as the host gets it. A count is at most the length of the lent

@@ -24,7 +24,7 @@ ghost use Rattle.journal.specs.Lines.{longestLine};
 ghost use Rattle.journal.specs.Passing.{Running};
 
 fn main() {
-    // 32,768 bytes: more than the longest description has, 24,005, and its length before it
+    // 32,768 bytes: more than the longest description has, 24,037, and its length before it
     let mut space = [0u8; 32768];
     let mut out = [0u8; 32768];
     journal(&mut space, &mut out);

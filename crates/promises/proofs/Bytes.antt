@@ -44,8 +44,8 @@ use Rattle.promises.proofs.Told.{both-iff, bytes-told, in-numbers}
 use Rattle.promises.proofs.Described.{of-described, Fine, fine-net, BytesOf, read-back, read-are}
 
 -- recording leaves a state that fits
-pub recorded-fit : (net : Net) {s t : State} (number : ℕ) → Fit (net .places) (net .groups) s → recorded net s number ≡ value t
-    → Fit (net .places) (net .groups) t
+pub recorded-fit : (net : Net) {s t : State} (number : ℕ) → Fit bound (net .places) (net .groups) s → recorded net s number ≡ value t
+    → Fit bound (net .places) (net .groups) t
 recorded-fit net {s} {t} number fit u =
     let found = record-yes net s number t u in
     rw (found .2) (fit-next net (found .0) fit (found .1 .range))
@@ -79,7 +79,7 @@ module _ (d : List ℕ) (net : Net) (says : described d ≡ value net) (b : List
       → Tied (PairOf net) (fitting room (recordReply d b number) >>= λ after. value (both d after)) (recorded net s number)
   record-tied number room = rw (recorded-is number) (go (recorded net s number) refl)
     where
-      enough : (t : State) → Fit (net .places) (net .groups) t → (some : Bool)
+      enough : (t : State) → Fit bound (net .places) (net .groups) t → (some : Bool)
           → Tied (PairOf net) ((question some noRoom >>= λ _. value (saved net t)) >>= λ after. value (both d after)) (value t)
       enough t fit true = Lists.both _ _ (record { net-is = says; state-is = record { are = refl; fit = fit } })
       enough t fit false = full t
@@ -103,7 +103,7 @@ unfolding countReply
 counted-is d =
     of-described d (λ net. (b : List ℕ) (s : State) → BytesOf net b s → (list : List ℕ) (n : ℕ) → Counts net s list n (countReply d b list n)) each
   where
-    each : (left : List ℕ) (x : Parts) → parts d ≡ ok x left → (b : List ℕ) (s : State) → BytesOf (netIn x) b s → (list : List ℕ) (n : ℕ)
+    each : (left : List ℕ) (x : Parts) → parts bound d ≡ ok x left → (b : List ℕ) (s : State) → BytesOf (netIn x) b s → (list : List ℕ) (n : ℕ)
         → Counts (netIn x) s list n (countReply d b list n)
     each left x e b s bytes list n =
         let net : Net = netIn x in

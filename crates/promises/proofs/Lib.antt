@@ -6,6 +6,7 @@ pub mod Values
 pub mod Meaning
 pub mod RoundTrips
 pub mod Longest
+pub mod Older
 pub mod Refusals
 pub mod Promises
 pub mod Examples

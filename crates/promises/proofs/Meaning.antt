@@ -2,9 +2,10 @@
 use Prim.Native.Nat.{ℕ}
 use mathlib.Core.Path.{_≡_, refl, sym, ap, _∙_, subst}
 use mathlib.Core.List.{List}
+use native.Mathlib.Omega.{arith}
 use Rattle.theory.specs.Nets as Theory
 use Rattle.theory.specs.Nets.{SameNet}
-use Rattle.theory.specs.Recording.{State, fresh, known, unplaced}
+use Rattle.theory.specs.Recording.{State, bound, fresh, known, unplaced}
 use Rattle.theory.specs.Replies.{Reply, value, refusal, _>>=_}
 use Rattle.theory.specs.Answers.{recorded, judged}
 use Rattle.theory.proofs.Answers.{clash}
@@ -37,21 +38,21 @@ use Rattle.promises.proofs.Values.{fresh-fit, same-recorded, same-judge
 module _ (net : Net) (checked : netCheck net ≡ value tt) where
   -- a call at the observer that is restored from bytes, and what the theory says at the state in them
   restored-then : {B : Type 0} (call : Observer → Reply B) (says : State → Reply B)
-      → ((s : State) → Fit (net .places) (groupsOf (net .groups)) s → call (observerOf net s) ≡ says s)
+      → ((s : State) → Fit bound (net .places) (groupsOf (net .groups)) s → call (observerOf net s) ≡ says s)
       → (b : List ℕ) → (restoredObserver net b >>= call) ≡ (stateIn (netOf net) b >>= says)
   unfolding restoredObserver
   restored-then call says same b = rw checked (go (restored (netOf net) b) refl)
     where
       go : (r : Result State) → restored (netOf net) b ≡ r
           → ((read r >>= λ s. value (observerOf net s)) >>= call) ≡ (read r >>= says)
-      go (ok s left) u = same s (state-back (netOf net) (well-formed net checked .good .outward) b left s u .fit)
+      go (ok s left) u = same s (state-back bound (omega arith) (netOf net) (well-formed net checked .good .outward) b left s u .fit)
       go (no n) u = refl
 
   fresh-output : (freshObserver net >>= observerOutput net) ≡ value (saved (netOf net) (fresh (netOf net)))
   unfolding freshObserver
   fresh-output = rw checked (output-is net checked (fresh (netOf net)) (fresh-fit net checked))
 
-  recorded-output : (number : ℕ) (s : State) → Fit (net .places) (groupsOf (net .groups)) s
+  recorded-output : (number : ℕ) (s : State) → Fit bound (net .places) (groupsOf (net .groups)) s
       → (recordedObserver net (observerOf net s) number >>= observerOutput net)
       ≡ (recorded (netOf net) s number >>= λ t. value (saved (netOf net) t))
   recorded-output number s fit = rw (same-recorded net checked s fit number) (go (recorded (netOf net) s number) refl)
@@ -61,13 +62,13 @@ module _ (net : Net) (checked : netCheck net ≡ value tt) where
       go (value t) u = output-is net checked t (recorded-fit (netOf net) number fit u)
       go (refusal n) u = refl
 
-  known-is : (s : State) → Fit (net .places) (groupsOf (net .groups)) s → observerKnown net (observerOf net s) ≡ value (known (netOf net) s)
+  known-is : (s : State) → Fit bound (net .places) (groupsOf (net .groups)) s → observerKnown net (observerOf net s) ≡ value (known (netOf net) s)
   unfolding observerKnown
   known-is s fit = rw (both-good net checked s fit) (ap value (known-alike (netOf net) (state-observer net checked s fit)))
 
 -- ---- of a description
 
-module _ (d left : List ℕ) (x : Parts) (e : parts d ≡ ok x left) where
+module _ (d left : List ℕ) (x : Parts) (e : parts bound d ≡ ok x left) where
   abbrev net : Net
   net = netFrom x
 
@@ -105,12 +106,12 @@ module _ (d left : List ℕ) (x : Parts) (e : parts d ≡ ok x left) where
 module _ (d : List ℕ) where
   -- a call on what a description says, and a call on the net that it is read to
   described-then : {B : Type 0} (says : Theory.Net → Reply B) (call : Net → Reply B)
-      → ((left : List ℕ) (x : Parts) → parts d ≡ ok x left → says (netIn x) ≡ call (netFrom x))
+      → ((left : List ℕ) (x : Parts) → parts bound d ≡ ok x left → says (netIn x) ≡ call (netFrom x))
       → (described d >>= says) ≡ (descriptionRead d >>= call)
   unfolding descriptionRead description
-  described-then says call same = go (parts d) refl
+  described-then says call same = go (parts bound d) refl
     where
-      go : (r : Result Parts) → parts d ≡ r
+      go : (r : Result Parts) → parts bound d ≡ r
           → ((read r >>= λ x. value (netIn x)) >>= says) ≡ (read (onward r (λ x. done (netFrom x))) >>= call)
       go (ok x left) u = same left x u
       go (no n) u = refl
@@ -118,9 +119,9 @@ module _ (d : List ℕ) where
   net-one : (net : Net) → descriptionRead d ≡ value net
       → (other : Theory.Net) × (described d ≡ value other) × SameNet other (netOf net)
   unfolding descriptionRead description
-  net-one net v = go (parts d) refl v
+  net-one net v = go (parts bound d) refl v
     where
-      go : (r : Result Parts) → parts d ≡ r → read (onward r (λ x. done (netFrom x))) ≡ value net
+      go : (r : Result Parts) → parts bound d ≡ r → read (onward r (λ x. done (netFrom x))) ≡ value net
           → (other : Theory.Net) × ((read r >>= λ x. value (netIn x)) ≡ value other) × SameNet other (netOf net)
       go (ok x left) u w =
           let here : netFrom x ≡ net = cc in

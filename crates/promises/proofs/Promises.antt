@@ -20,7 +20,8 @@ use Rattle.promises.proofs.Bytes.{list-on-bytes, state-on-bytes}
 use Rattle.promises.proofs.Values.{list-on-values, state-on-values}
 use Rattle.promises.proofs.Meaning.{one-meaning}
 use Rattle.promises.proofs.RoundTrips.{round-trips}
-use Rattle.promises.proofs.Longest.{longest}
+use Rattle.promises.proofs.Longest.{longest, largest-sum}
+use Rattle.promises.proofs.Older.{older, as-before}
 use Rattle.promises.proofs.Refusals.{refusals-on-bytes, refusals-on-values}
 
 pub demand-1 : Demand1
@@ -109,10 +110,13 @@ promises =
       starts = starts;
       states-on-bytes = state-on-bytes;
       states-on-values = state-on-values;
+      older = older;
+      as-before = as-before;
       determined = determined;
       meaning = one-meaning;
       round-trips = round-trips;
       longest = longest;
+      largest-sum = largest-sum;
       refusals-on-bytes = λ d s out number. refusals-on-bytes d s number out;
       refusals-on-values = λ net o s out number. refusals-on-values net o s number out;
     }

@@ -3,7 +3,7 @@ use Prim.Native.Nat.{ℕ}
 use mathlib.Core.Path.{_≡_, refl, sym}
 use mathlib.Core.List.{List}
 use Rattle.theory.specs.Nets as Theory
-use Rattle.theory.specs.Recording.{State, Alike}
+use Rattle.theory.specs.Recording.{State, Alike, bound}
 use Rattle.theory.specs.Replies.{Reply, value, refusal, _>>=_}
 use Rattle.theory.proofs.Answers.{clash}
 use Rattle.numbers.proofs.RoundTrips.{written-read, read-written}
@@ -41,7 +41,7 @@ description-read net b u =
 
 -- ---- states, for a net that is described
 
-state-written : (d : List ℕ) (net : Theory.Net) → described d ≡ value net → (s : State) → Fit (net .places) (net .groups) s
+state-written : (d : List ℕ) (net : Theory.Net) → described d ≡ value net → (s : State) → Fit bound (net .places) (net .groups) s
     → (t : State) × (stateIn net (saved net s) ≡ value t) × Alike net s t
 state-written d net says s fit = read-back d net says (saved net s) s (record { are = refl; fit = fit })
 

@@ -17,7 +17,7 @@ use Rattle.theory.specs.Demands as Demands
 use Rattle.codec.specs.declared.Wrote.{Wrote}
 use Rattle.codec.specs.declared.Wrote.the-variants as Wrote
 use Rattle.codec.specs.declared.WroteBoth.the-variants as WroteBoth
-use Rattle.codec.specs.Output.{wroteOf, Pair, wroteBothOf, bothAnswer}
+use Rattle.codec.specs.Output.{wroteOf, answer, Pair, wroteBothOf, bothAnswer}
 use Rattle.net.specs.declared.Observer.{Observer}
 use Rattle.net.specs.declared.Checked.the-variants as Checked
 use Rattle.net.specs.declared.Verdict.the-variants.{Allow, Hold}
@@ -65,6 +65,17 @@ both-iff (value pair) described room = (go (leb (length (pair .description)) des
     go : (t : Bool) → wroteBothOf (question t noRoom >>= λ _. value pair) ≡ WroteBoth.Refused 15 → value pair ≡ refusal 15
     go true e = clash (cc)
     go false e = absurd (let z : noRoom ≡ 15 = cc in let y : ⊥ = omega arith in y)
+
+-- ---- for older observers
+
+-- nor in 17
+pub older-iff : (r : Reply (List ℕ)) (room : ℕ) → (answer room r ≡ Wrote.Refused 17) ↔ (r ≡ refusal 17)
+older-iff (refusal k) room = ((λ e. cc), (λ e. cc))
+older-iff (value b) room = (go (leb (length b) room), (λ e. clash (cc)))
+  where
+    go : (t : Bool) → wroteOf (question t noRoom >>= λ _. value b) ≡ Wrote.Refused 17 → value b ≡ refusal 17
+    go true e = clash (cc)
+    go false e = absurd (let z : noRoom ≡ 17 = cc in let y : ⊥ = omega arith in y)
 
 -- ---- in the calls' words
 

@@ -9,7 +9,7 @@ use lib.ListN.{length}
 use Rattle.theory.specs.Nets as Theory
 use Rattle.theory.specs.Nets.{Marking}
 use Rattle.theory.specs.Firing.{Same}
-use Rattle.theory.specs.Recording.{State, Alike, Within, fresh, next, known}
+use Rattle.theory.specs.Recording.{State, Alike, Within, bound, fresh, next, known}
 use Rattle.theory.proofs.Recording.{next-iff}
 use Rattle.theory.specs.Replies.{Reply, value, refusal, _>>=_}
 use Rattle.theory.specs.Answers.{recorded, judged}
@@ -46,10 +46,10 @@ use Rattle.promises.proofs.Bytes.{recorded-fit}
 record ObserverOf (net : Net) (o : Observer) (groups : Theory.Groups) (s : State) : Type 0 where
   unchanged : groups ≡ groupsOf (net .groups)
   is : o ≡ observerOf net s
-  fit : Fit (net .places) (groupsOf (net .groups)) s
+  fit : Fit bound (net .places) (groupsOf (net .groups)) s
 
 -- recording leaves the observer of the theory's next state
-recorded-tied : (net : Net) (s : State) → Fit (net .places) (groupsOf (net .groups)) s → (number : ℕ)
+recorded-tied : (net : Net) (s : State) → Fit bound (net .places) (groupsOf (net .groups)) s → (number : ℕ)
     → Tied (λ o t. ObserverOf net o (groupsOf (net .groups)) t) (recorded (netOf net) s number >>= λ t. value (observerOf net t)) (recorded (netOf net) s number)
 recorded-tied net s fit number = go (recorded (netOf net) s number) refl
   where
@@ -64,7 +64,7 @@ module _ (net : Net) (o : Observer) (met : bothCheck net o ≡ value tt) where
   checked : netCheck net ≡ value tt
   checked = both-passed net o met .0
 
-  fit : Fit (net .places) (groupsOf (net .groups)) (stateOf o)
+  fit : Fit bound (net .places) (groupsOf (net .groups)) (stateOf o)
   fit = state-fits net checked o (both-passed net o met .1)
 
   recorded-is : (number : ℕ) → recordedObserver net o number ≡ (recorded (netOf net) (stateOf o) number >>= λ t. value (observerOf net t))
@@ -118,26 +118,26 @@ module _ (net : Net) (checked : netCheck net ≡ value tt) where
   unfolding freshObserver
   fresh-is = rw checked
 
-  pub fresh-fit : Fit (net .places) (groupsOf (net .groups)) (fresh (netOf net))
+  pub fresh-fit : Fit bound (net .places) (groupsOf (net .groups)) (fresh (netOf net))
   fresh-fit =
       let well = well-formed net checked in
       fit-fresh (netOf net) (well .good) (λ i l.
       rw (before net checked i) (well .valued .counts .small i (omega (arith, well .sized .groups))))
 
   -- the calls at an observer of a state are the theory's at the state
-  pub same-recorded : (s : State) → Fit (net .places) (groupsOf (net .groups)) s → (number : ℕ)
+  pub same-recorded : (s : State) → Fit bound (net .places) (groupsOf (net .groups)) s → (number : ℕ)
       → recordedObserver net (observerOf net s) number ≡ (recorded (netOf net) s number >>= λ t. value (observerOf net t))
   unfolding recordedObserver
   same-recorded s fit number =
       rw (both-good net checked s fit)
       (recorded-alike (netOf net) (state-observer net checked s fit) (observerOf net) (λ t u. same-observer net checked) number)
 
-  pub same-judged : (s : State) → Fit (net .places) (groupsOf (net .groups)) s → (number : ℕ)
+  pub same-judged : (s : State) → Fit bound (net .places) (groupsOf (net .groups)) s → (number : ℕ)
       → observerJudged net (observerOf net s) number ≡ judged (netOf net) s number
   unfolding observerJudged
   same-judged s fit number = rw (both-good net checked s fit) (judge-alike (netOf net) (state-observer net checked s fit) number)
 
-  restored-back : (s : State) → Fit (net .places) (groupsOf (net .groups)) s
+  restored-back : (s : State) → Fit bound (net .places) (groupsOf (net .groups)) s
       → restoredObserver net (bytesOf (observerOutput net (observerOf net s))) ≡ value (observerOf net s)
   restored-back s fit =
       let out = output-is net checked s fit in

@@ -28,3 +28,7 @@ pub fn known(d: &[u8], s: &[u8]) -> i64 {
 pub fn count(d: &[u8], s: &[u8], places: &[u8], n: u32, described: &mut [u8], out: &mut [u8]) -> i64 {
     number(yarrowbeam::count(d, s, places, n, described, out), |(d, s)| (d as i64) << 32 | s as i64)
 }
+
+pub fn older(d: &[u8], s: &[u8], out: &mut [u8]) -> i64 {
+    number(yarrowbeam::older(d, s, out), |count| count as i64)
+}

@@ -10,10 +10,11 @@ mod strong;
 mod values;
 
 use nets::{Case, Numbers};
+use reference::BOUND;
 use std::hint::black_box;
 use std::time::Instant;
 
-/// One observer's five calls.
+/// One observer's six calls.
 struct Observer {
     name: &'static str,
     fresh: fn(&[u8], &mut [u8]) -> i64,
@@ -21,6 +22,7 @@ struct Observer {
     judge: fn(&[u8], &[u8], u32) -> i64,
     known: fn(&[u8], &[u8]) -> i64,
     count: fn(&[u8], &[u8], &[u8], u32, &mut [u8], &mut [u8]) -> i64,
+    older: fn(&[u8], &[u8], &mut [u8]) -> i64,
 }
 
 macro_rules! observer {
@@ -32,6 +34,7 @@ macro_rules! observer {
             judge: $name::judge,
             known: $name::known,
             count: $name::count,
+            older: $name::older,
         }
     };
 }
@@ -39,8 +42,8 @@ macro_rules! observer {
 const OBSERVERS: [Observer; 3] = [observer!(host), observer!(strong), observer!(plain)];
 
 /// The lengths of the largest state and of the largest description.
-const ROOM: usize = 291;
-const LONGEST: usize = 24_005;
+const ROOM: usize = yarrowbeam::LARGEST_STATE;
+const LONGEST: usize = yarrowbeam::LARGEST_DESCRIPTION;
 
 // ---- alike
 
@@ -56,9 +59,9 @@ struct Asked<'a> {
 }
 
 /// All that an observer answers and writes; behind each room stand bytes that nobody writes.
-fn answers(observer: &Observer, asked: &Asked) -> ([i64; 5], [[u8; ROOM]; 3], Vec<u8>) {
+fn answers(observer: &Observer, asked: &Asked) -> ([i64; 6], [[u8; ROOM]; 4], Vec<u8>) {
     let &Asked { d, s, event, places, tokens, described_room, room } = asked;
-    let (mut begun, mut after, mut counted) = ([0x5A; ROOM], [0x5A; ROOM], [0x5A; ROOM]);
+    let (mut begun, mut after, mut counted, mut same) = ([0x5A; ROOM], [0x5A; ROOM], [0x5A; ROOM], [0x5A; ROOM]);
     let mut described = vec![0x5A; described_room + 8];
     let numbers = [
         (observer.fresh)(d, &mut begun[..room]),
@@ -66,16 +69,18 @@ fn answers(observer: &Observer, asked: &Asked) -> ([i64; 5], [[u8; ROOM]; 3], Ve
         (observer.judge)(d, s, event),
         (observer.known)(d, s),
         (observer.count)(d, s, places, tokens, &mut described[..described_room], &mut counted[..room]),
+        (observer.older)(d, s, &mut same[..room]),
     ];
-    (numbers, [begun, after, counted], described)
+    (numbers, [begun, after, counted, same], described)
 }
 
-/// What the inputs met: each refusal of recording and of counting by its number, or 0 for bytes written; allowances, holds and
-/// yeses.
+/// What the inputs met: each refusal of recording, of counting and of writing for older observers by its number, or 0 for bytes
+/// written; allowances, holds and yeses.
 #[derive(Default)]
 struct Met {
     recorded: [u32; 14],
     counted: [u32; 17],
+    older: [u32; 18],
     allowed: u32,
     held: u32,
     known: u32,
@@ -93,9 +98,10 @@ fn compare(asked: &Asked, met: &mut Met) {
             observer.name
         );
     }
-    let [_, recorded, judged, known, counted] = first.0;
+    let [_, recorded, judged, known, counted, older] = first.0;
     met.recorded[usize::try_from(-recorded).unwrap_or(0)] += 1;
     met.counted[usize::try_from(-counted).unwrap_or(0)] += 1;
+    met.older[usize::try_from(-older).unwrap_or(0)] += 1;
     met.allowed += u32::from(judged == 0);
     met.held += u32::from(judged > 0);
     met.known += u32::from(known == 1);
@@ -152,7 +158,7 @@ fn alike<'a>(cases: impl Iterator<Item = &'a Case>) {
         let (d, s) = nets::small(&mut numbers);
         for event in 1..=3 {
             let places: Vec<u8> = (0..numbers.within(0, 3)).map(|_| numbers.within(0, 7) as u8).collect();
-            let tokens = [numbers.within(0, 9), 65_535, 65_536][event as usize - 1];
+            let tokens = [numbers.within(0, 9), 65_536, BOUND, BOUND + 1][numbers.within(0, 3) as usize];
             let described_room = d.len() + numbers.within(3, 6) as usize;
             compare(&Asked { d: &d, s: &s, event, places: &places, tokens, described_room, room: ROOM }, &mut met);
         }
@@ -164,7 +170,8 @@ fn alike<'a>(cases: impl Iterator<Item = &'a Case>) {
     println!("All three observers answered and wrote alike on {} inputs.", met.recorded.iter().sum::<u32>());
     println!("Judging allowed {} and held {}, and {} states were known.", met.allowed, met.held, met.known);
     println!("Recording wrote for {}; its refusals, and how often: {}.", met.recorded[0], refusals(&met.recorded));
-    println!("Counting wrote for {}; its refusals, and how often: {}.\n", met.counted[0], refusals(&met.counted));
+    println!("Counting wrote for {}; its refusals, and how often: {}.", met.counted[0], refusals(&met.counted));
+    println!("Older observers got {} states; the refusals, and how often: {}.\n", met.older[0], refusals(&met.older));
 }
 
 // ---- time
@@ -216,6 +223,13 @@ fn count<'a>(observer: &'a Observer, case: &'a Case) -> Call<'a> {
     })
 }
 
+/// The state of a case, written for older observers by one observer.
+fn older<'a>(observer: &'a Observer, case: &'a Case) -> Call<'a> {
+    let mut same = [0; ROOM];
+    let Case { d, s, .. } = case;
+    Box::new(move || (observer.older)(black_box(d), black_box(s), black_box(&mut same)))
+}
+
 fn time(cases: &[Case]) {
     println!("| net | bytes | call | host ns | strong ns | plain ns | host / strong | host / plain |");
     println!("|---|--:|---|--:|--:|--:|--:|--:|");
@@ -244,13 +258,17 @@ fn time(cases: &[Case]) {
     println!();
 }
 
-/// Head counts, and beside each a fresh state of the same description, since a head count reads it as a fresh state does, and then
-/// writes it.
-fn time_of_counts(cases: &[Case]) {
-    println!("| net | bytes | places | call | host ns | strong ns | plain ns | host / strong | host / plain | host's count / fresh |");
+/// A call, and beside it a fresh state of the same description, since the call reads it as a fresh state does, and then writes. A
+/// column of its own says how much that is.
+fn time_beside_fresh(
+    cases: &[Case],
+    (column, size): (&str, fn(&Case) -> usize),
+    (name, call): (&str, for<'a> fn(&'a Observer, &'a Case) -> Call<'a>),
+) {
+    println!("| net | bytes | {column} | call | host ns | strong ns | plain ns | host / strong | host / plain | host's {name} / fresh |");
     println!("|---|--:|--:|---|--:|--:|--:|--:|--:|--:|");
     for case in cases {
-        let mut both: Vec<Call> = OBSERVERS.iter().map(|observer| count(observer, case)).collect();
+        let mut both: Vec<Call> = OBSERVERS.iter().map(|observer| call(observer, case)).collect();
         for observer in &OBSERVERS {
             let [(_, fresh), ..] = calls(observer, case);
             both.push(fresh);
@@ -259,8 +277,8 @@ fn time_of_counts(cases: &[Case]) {
         let row = |ns: &[f64]| {
             format!("{:.0} | {:.0} | {:.0} | {:.2} | {:.2}", ns[0], ns[1], ns[2], ns[0] / ns[1], ns[0] / ns[2])
         };
-        println!("| {} | {} | {} | fresh | {} | |", case.name, case.d.len(), case.places.len(), row(&ns[3..]));
-        println!("|  |  |  | count | {} | {:.2} |", row(&ns[..3]), ns[0] / ns[3]);
+        println!("| {} | {} | {} | fresh | {} | |", case.name, case.d.len(), size(case), row(&ns[3..]));
+        println!("|  |  |  | {name} | {} | {:.2} |", row(&ns[..3]), ns[0] / ns[3]);
     }
     println!();
 }
@@ -289,16 +307,16 @@ fn growth(cases: &[Case]) {
 /// On a net, and for head counts on that net with loose places.
 fn stacks(case: &Case, loosened: &Case) {
     let nothing = stack::touched(&mut || ());
-    println!("| stack, bytes | fresh | record | judge | count |");
-    println!("|---|--:|--:|--:|--:|");
+    println!("| stack, bytes | fresh | record | judge | count | older |");
+    println!("|---|--:|--:|--:|--:|--:|");
     for observer in &OBSERVERS {
         let [fresh, record, judge] = calls(observer, case).map(|(_, call)| call);
-        let touched = [fresh, record, judge, count(observer, loosened)].map(|mut call| {
+        let touched = [fresh, record, judge, count(observer, loosened), older(observer, case)].map(|mut call| {
             stack::touched(&mut || {
                 black_box(call());
             }) - nothing
         });
-        println!("| {} | {} | {} | {} | {} |", observer.name, touched[0], touched[1], touched[2], touched[3]);
+        println!("| {} | {} |", observer.name, touched.map(|bytes| bytes.to_string()).join(" | "));
     }
     println!();
 }
@@ -310,7 +328,8 @@ fn main() {
     let (cases, loosened) = (nets::all(), nets::loosened());
     alike(cases.iter().chain(&loosened));
     time(&cases);
-    time_of_counts(&loosened);
+    time_beside_fresh(&loosened, ("places", |case| case.places.len()), ("count", count));
+    time_beside_fresh(&cases, ("state", |case| case.s.len()), ("older", older));
     growth(&nets::growing());
     stacks(&cases[2], &loosened[2]);
     journal::speeds(&nets::rounds());

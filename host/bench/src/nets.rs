@@ -1,8 +1,8 @@
 //! The nets that are measured, each with a state and an event.
 
-use crate::plain;
+use crate::{plain, LONGEST, ROOM};
 use reference::description::{Group, Limit, Net};
-use reference::{State, POOL};
+use reference::{State, BOUND, OLDER_BOUND, POOL};
 
 /// Numbers without a pattern, the same in every run (xorshift).
 pub struct Numbers(pub u64);
@@ -159,11 +159,11 @@ fn net(shape: &Shape) -> Net {
 
 /// The state after the events have been recorded in turn, from fresh.
 fn state(d: &[u8], events: &[u32]) -> Vec<u8> {
-    let mut s = vec![0; 291];
+    let mut s = vec![0; ROOM];
     let size = plain::fresh(d, &mut s);
     s.truncate(usize::try_from(size).unwrap());
     for &event in events {
-        let mut after = vec![0; 291];
+        let mut after = vec![0; ROOM];
         let size = plain::record(d, &s, event, &mut after);
         after.truncate(usize::try_from(size).unwrap());
         s = after;
@@ -227,7 +227,7 @@ pub fn small(numbers: &mut Numbers) -> (Vec<u8>, Vec<u8>) {
         })
         .collect();
     if numbers.next() % 4 == 0 {
-        estimates[0] = 65_535;
+        estimates[0] = [OLDER_BOUND, OLDER_BOUND + 1, BOUND][numbers.within(0, 2) as usize];
     }
     // as many groups as can be, without place or token
     if numbers.next() % 8 == 0 {
@@ -248,7 +248,7 @@ pub fn all() -> Vec<Case> {
     let (d, s) = (POOL.to_vec(), state(&POOL, &[1, 1]));
     let mut all = vec![Case { name: "the pool of three", d, s, event: 2, places: Vec::new(), tokens: 0 }];
     all.extend([&MIDDLE, &LARGEST, &ONE_BYTE].map(case));
-    assert_eq!(all[2].d.len(), 24_005, "no description is larger");
+    assert_eq!(all[2].d.len() + 32, LONGEST, "only its counts are not at their longest, so that older observers read its state");
     for case in &all {
         assert_eq!(plain::judge(&case.d, &case.s, case.event), 0, "{}: every limit is weighed", case.name);
     }
@@ -259,7 +259,7 @@ pub fn all() -> Vec<Case> {
 /// which a head count moves the most.
 pub fn loosened() -> Vec<Case> {
     let mut loosened: Vec<Case> = all().into_iter().map(loosen).collect();
-    assert_eq!(loosened[2].d.len(), 24_000, "a head count makes it the largest");
+    assert_eq!(loosened[2].d.len() + 5 + 32, LONGEST, "a head count adds the group again, of which the count has 3 bytes");
     let row = || vec![vec![0; 64]];
     let d = reference::write_description(&Net { homes: vec![0; 64], groups: vec![], takes: row(), gives: row(), limits: vec![] });
     let (s, places) = (state(&d, &[]), (1..=64).rev().collect());

@@ -1,7 +1,9 @@
 //! One case: every call through the library beside the reference.
 
-use crate::kinds::{after_count, count_head_count, count_sizes, Kind, Of, Room, SHORT};
-use reference::{read_description, read_state, write_description, write_state};
+use crate::kinds::{after_count, count_edges_after, count_edges_of, count_head_count, count_older, count_sizes};
+use crate::kinds::{Kind, Of, Room, SHORT};
+use crate::older;
+use reference::{read_description, read_state, write_description, write_state, Net, State};
 use seeded::hex;
 use seeded::met::Met;
 use seeded::numbers::Numbers;
@@ -56,6 +58,9 @@ struct Expected {
     judge: Answer,
     known: Answer,
     count: Written<2>,
+    older: Written<1>,
+    /// The net and the state, where both are read.
+    read: Option<(Net, State)>,
 }
 
 fn expected(case: &Case, met: &mut Met<Of>) -> Expected {
@@ -65,7 +70,10 @@ fn expected(case: &Case, met: &mut Met<Of>) -> Expected {
         judge: Answer::Refused(refusal),
         known: Answer::Refused(refusal),
         count: Err(refusal),
+        older: Err(refusal),
+        read: None,
     };
+    count_edges_of(&case.description, &case.state, met);
     let net = match read_description(&case.description) {
         Ok(net) => net,
         Err(refusal) => return refused(refusal),
@@ -79,6 +87,8 @@ fn expected(case: &Case, met: &mut Met<Of>) -> Expected {
     };
     met.count(Of("state", Kind::Size(case.state.len(), "bytes")));
     count_head_count(&net, &state, &case.places, case.tokens, met);
+    count_older(&net, &state, met);
+    count_edges_after(&net, &state, case.event, met);
     Expected {
         fresh,
         record: reference::record(&net, &state, case.event).map(|after| [write_state(&after)]),
@@ -90,6 +100,8 @@ fn expected(case: &Case, met: &mut Met<Of>) -> Expected {
         known: Answer::Known(reference::known(&net, &state)),
         count: reference::count(&net, &state, &case.places, case.tokens)
             .map(|(net, state)| [write_description(&net), write_state(&state)]),
+        older: reference::older(&state).map(|bytes| [bytes]),
+        read: Some((net, state)),
     }
 }
 
@@ -145,7 +157,11 @@ pub fn compare(case: &Case, numbers: &mut Numbers, met: &mut Met<Of>) -> Result<
     calls.answers("known", &expected.known, Answer::of(yarrowbeam::known(d, s), Answer::Known))?;
     calls.writes("count", both, expected.count, |[described, out]| {
         yarrowbeam::count(d, s, places, case.tokens, described, out).map(|(description, state)| [description, state])
-    })
+    })?;
+    calls.writes("older", [("older", LARGEST_STATE)], expected.older, |[out]| {
+        yarrowbeam::older(d, s, out).map(|length| [length])
+    })?;
+    expected.read.map_or(Ok(()), |(net, state)| older::compare(case, &net, &state))
 }
 
 struct Calls<'a> {
@@ -203,6 +219,9 @@ impl Calls<'_> {
             for (name, _) in SHORT.iter().filter(|(_, which)| short[..] == which[..]) {
                 self.met.count(Of(call, Kind::With(name)));
             }
+        }
+        if let (Err(refusal), true) = (&expected, rooms == [0; N]) {
+            self.met.count(Of(call, Kind::RefusedInNoRoom(*refusal)));
         }
         let expected = expected.and_then(|written| if short == [false; N] { Ok(written) } else { Err(13) });
         let answer = match &expected {

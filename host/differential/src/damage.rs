@@ -5,7 +5,7 @@ use reference::number::{put_number, Bytes};
 use std::ops::Range;
 
 /// Numbers at the bounds of what descriptions and states hold, and one past them.
-const BOUNDS: [u32; 29] = [
+const BOUNDS: [u32; 31] = [
     0,
     1,
     2,
@@ -30,6 +30,8 @@ const BOUNDS: [u32; 29] = [
     2_002,
     65_535,
     65_536,
+    16_777_215,
+    16_777_216,
     1_999_999_999,
     2_000_000_000,
     2_000_000_001,

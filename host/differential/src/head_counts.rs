@@ -1,6 +1,6 @@
 //! What head counts are asked for: lists of places, good or with a fault, and numbers of tokens around the bounds.
 
-use reference::{Net, State};
+use reference::{Net, State, BOUND, OLDER_BOUND};
 use seeded::numbers::Numbers;
 
 /// Places of the net, one in a byte.
@@ -40,9 +40,10 @@ fn some(of: &[u8], numbers: &mut Numbers) -> Vec<u8> {
     (0..number).map(|_| rest.swap_remove(numbers.below(rest.len()))).collect()
 }
 
-/// What the estimates of the listed places add up to; numbers of no place are passed over.
+/// What the estimates of the listed places add up to, or the largest number; numbers of no place are passed over.
 pub fn estimated(state: &State, places: &[u8]) -> u32 {
-    places.iter().filter_map(|&place| state.estimates.get(usize::from(place).checked_sub(1)?)).sum()
+    let listed = places.iter().filter_map(|&place| state.estimates.get(usize::from(place).checked_sub(1)?));
+    listed.fold(0, |sum, &estimate| sum.saturating_add(estimate))
 }
 
 /// A number of tokens at the listed places.
@@ -51,12 +52,13 @@ pub fn tokens(state: &State, places: &[u8], numbers: &mut Numbers) -> u32 {
     match numbers.within(1, 16) {
         1 => least.saturating_sub(1),
         2..=4 => least,
-        5..=6 => 65_535,
-        7 => 65_536,
+        5..=6 => BOUND,
+        7 => BOUND + 1,
         8 => u32::MAX,
         9 => numbers.next() as u32,
         10 => numbers.within(0, least),
-        11..=12 => numbers.within(least.min(65_535), 65_535),
-        _ => least + numbers.within(0, 5),
+        11..=12 => numbers.within(least.min(BOUND), BOUND),
+        13 => numbers.pick(&[OLDER_BOUND, OLDER_BOUND + 1]),
+        _ => least.saturating_add(numbers.within(0, 5)),
     }
 }

@@ -1,9 +1,9 @@
 //! What the cases meet, and what they must meet.
 
 use crate::head_counts::estimated;
-use reference::{Net, State};
+use reference::{read_description_within, read_state_within, record, Net, State, BOUND, OLDER_BOUND};
 use seeded::met::Met;
-use seeded::nets::deepest;
+use seeded::nets::{deepest, EDGES};
 use std::fmt;
 use yarrowbeam::{LARGEST_DESCRIPTION, LARGEST_STATE};
 
@@ -17,7 +17,7 @@ impl fmt::Display for Of {
     }
 }
 
-/// One kind of answer, of room for what is to be written, of head count, or of size.
+/// One kind of answer, of room for what is to be written, of head count, of state, or of size.
 #[derive(Clone, Copy, PartialEq, Eq, Hash)]
 pub enum Kind {
     Wrote,
@@ -26,6 +26,7 @@ pub enum Kind {
     Yes,
     No,
     Refused(u32),
+    RefusedInNoRoom(u32),
     Room(Room),
     With(&'static str),
     Size(usize, &'static str),
@@ -62,6 +63,7 @@ impl fmt::Display for Kind {
             Kind::Yes => write!(f, "yes"),
             Kind::No => write!(f, "no"),
             Kind::Refused(refusal) => write!(f, "refused {refusal}"),
+            Kind::RefusedInNoRoom(refusal) => write!(f, "refused {refusal} in room 0"),
             Kind::Room(Room::Zero) => write!(f, "room 0"),
             Kind::Room(Room::Short) => write!(f, "room short by more"),
             Kind::Room(Room::OneShort) => write!(f, "room one short"),
@@ -80,7 +82,8 @@ pub fn after_count(call: &str) -> &'static str {
         "record" => "after a count, record",
         "judge" => "after a count, judge",
         "known" => "after a count, known",
-        _ => "after a count, count",
+        "count" => "after a count, count",
+        _ => "after a count, older",
     }
 }
 
@@ -95,8 +98,10 @@ fn faults(net: &Net, places: &[u8]) -> [bool; 4] {
     ]
 }
 
-/// Kinds of lists of places.
-const LISTS: [(&str, fn(&Net, &[u8]) -> bool); 8] = [
+/// Is a list of places of a kind?
+type OfList = fn(&Net, &[u8]) -> bool;
+
+const LISTS: [(&str, OfList); 8] = [
     ("no place", |_, places| places.is_empty()),
     ("place 0 alone at fault", |net, places| faults(net, places) == [true, false, false, false]),
     ("a place above P alone at fault", |net, places| faults(net, places) == [false, true, false, false]),
@@ -107,15 +112,41 @@ const LISTS: [(&str, fn(&Net, &[u8]) -> bool); 8] = [
     ("loose places in another order", |net, places| faults(net, places) == [false; 4] && !places.is_sorted()),
 ];
 
-/// Kinds of numbers of tokens, beside what the estimates add up to.
-const TOKENS: [(&str, fn(u32, u32) -> bool); 7] = [
-    ("one token less than the estimates", |estimated, n| estimated <= 65_535 && estimated.checked_sub(n) == Some(1)),
-    ("as many tokens as the estimates", |estimated, n| n == estimated && n <= 65_535),
-    ("tokens between", |estimated, n| estimated < n && n < 65_535),
+/// Is a number of tokens of a kind, beside what the estimates add up to?
+type OfTokens = fn(u32, u32) -> bool;
+
+const TOKENS: [(&str, OfTokens); 9] = [
+    ("one token less than the estimates", |estimated, n| estimated <= BOUND && estimated.checked_sub(n) == Some(1)),
+    ("as many tokens as the estimates", |estimated, n| n == estimated && n <= BOUND),
+    ("tokens between", |estimated, n| estimated < n && n < BOUND),
     ("65,535 tokens", |estimated, n| estimated < n && n == 65_535),
     ("65,536 tokens", |estimated, n| estimated < n && n == 65_536),
+    ("16,777,215 tokens", |estimated, n| estimated < n && n == 16_777_215),
+    ("16,777,216 tokens", |estimated, n| estimated < n && n == 16_777_216),
     ("4,294,967,295 tokens", |_, n| n == u32::MAX),
-    ("estimates above 65,535", |estimated, n| estimated > 65_535 && n <= 65_535),
+    ("estimates above 16,777,215", |estimated, n| estimated > 16_777_215 && n <= 16_777_215),
+];
+
+fn too_large(n: &u32) -> bool {
+    *n > OLDER_BOUND
+}
+
+/// Is a state that is asked for older observers of a kind?
+type OfState = fn(&Net, &State) -> bool;
+
+const OLDER: [(&str, OfState); 7] = [
+    ("estimates alone too large", |_, s| s.estimates.iter().any(too_large) && !s.unplaced.iter().any(too_large)),
+    ("unplaced numbers alone too large", |_, s| !s.estimates.iter().any(too_large) && s.unplaced.iter().any(too_large)),
+    ("both too large", |_, s| s.estimates.iter().any(too_large) && s.unplaced.iter().any(too_large)),
+    ("an unplaced number too large, but no own remainder and no estimate", |net, s| {
+        let own = (1..=net.groups.len()).map(|g| net.own(&s.unplaced, g));
+        s.unplaced.iter().any(too_large) && !s.estimates.iter().any(too_large) && own.max() <= Some(OLDER_BOUND.into())
+    }),
+    ("65,535 as the largest number", |_, s| s.estimates.iter().chain(&s.unplaced).max() == Some(&65_535)),
+    ("65,536 as the largest number", |_, s| s.estimates.iter().chain(&s.unplaced).max() == Some(&65_536)),
+    ("a count too large, but no number of the state", |net, s| {
+        net.groups.iter().any(|group| too_large(&group.count)) && !s.estimates.iter().chain(&s.unplaced).any(too_large)
+    }),
 ];
 
 /// Which of the two rooms of a head count are too short.
@@ -138,6 +169,47 @@ pub fn count_head_count(net: &Net, state: &State, places: &[u8], n: u32, met: &m
     }
     met.count(Of("count", Kind::Size(net.groups.len(), "groups")));
 }
+
+/// Counts what is asked for older observers, of a state that was read.
+pub fn count_older(net: &Net, state: &State, met: &mut Met<Of>) {
+    for (name, _) in OLDER.iter().filter(|(_, is)| is(net, state)) {
+        met.count(Of("older", Kind::With(name)));
+    }
+}
+
+/// Where numbers at the bounds and one past them stand.
+const COUNT: &str = "a count of";
+const ESTIMATE: &str = "an estimate of";
+const UNPLACED: &str = "an unplaced number of";
+const AFTER: &str = "after an event an estimate of";
+
+/// Counts the numbers at the bounds and one past them among these.
+fn count_edges(of: &'static str, found: &[u32], met: &mut Met<Of>) {
+    for edge in EDGES.into_iter().filter(|edge| found.contains(edge)) {
+        met.count(Of(of, Kind::Size(edge as usize, "tokens")));
+    }
+}
+
+/// The same of a description and a state; where a number is past the bound nothing else is at fault.
+pub fn count_edges_of(description: &[u8], state: &[u8], met: &mut Met<Of>) {
+    let Ok(net) = read_description_within(description, BOUND + 1) else { return };
+    count_edges(COUNT, &net.groups.iter().map(|group| group.count).collect::<Vec<_>>(), met);
+    let Ok(state) = read_state_within(&net, state, BOUND + 1) else { return };
+    count_edges(ESTIMATE, &state.estimates, met);
+    count_edges(UNPLACED, &state.unplaced, met);
+}
+
+/// The same of the estimates that a possible event leaves, in range or not.
+pub fn count_edges_after(net: &Net, state: &State, event: u32, met: &mut Met<Of>) {
+    if let Ok(_) | Err(12) = record(net, state, event) {
+        let e = event as usize - 1;
+        let after = |p: usize| state.estimates[p].saturating_sub(net.takes[e][p]) + net.gives[e][p];
+        count_edges(AFTER, &(0..net.places()).map(after).collect::<Vec<_>>(), met);
+    }
+}
+
+/// The length of the largest state that is written for older observers.
+const LARGEST_FOR_OLDER: usize = 291;
 
 /// All that must be met, in the order in which it is printed.
 pub fn due() -> Vec<Of> {
@@ -163,6 +235,13 @@ pub fn due() -> Vec<Of> {
     add(after_count("judge"), &mut [Kind::Allow, Kind::Hold(1)].into_iter().chain(refused(&[9, 10, 11, 12])));
     add(after_count("known"), &mut [Kind::Yes, Kind::No, Kind::Refused(9)].into_iter());
     add(after_count("count"), &mut [Kind::Wrote].into_iter().chain(refused(&[9, 13, 14, 15, 16])));
+    add("older", &mut [Kind::Wrote].into_iter().chain(refusals(9)).chain(refused(&[13, 17])).chain(rooms));
+    add("older", &mut OLDER.iter().map(|(name, _)| Kind::With(name)).chain([9, 17].map(Kind::RefusedInNoRoom)));
+    add("older", &mut bytes(LARGEST_FOR_OLDER));
+    add(after_count("older"), &mut [Kind::Wrote].into_iter().chain(refused(&[9, 13, 17])));
+    for of in [COUNT, ESTIMATE, UNPLACED, AFTER] {
+        add(of, &mut EDGES.into_iter().map(|edge| Kind::Size(edge as usize, "tokens")));
+    }
     add("list from fresh", &mut (1..=4).map(|counts| Kind::Size(counts, "head counts")));
     add("list from a given state", &mut [Kind::With("a head count")].into_iter());
     add("net", &mut bounds.into_iter().flat_map(|(least, most, of)| [Kind::Size(least, of), Kind::Size(most, of)]));

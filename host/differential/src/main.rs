@@ -1,11 +1,12 @@
 //! Compares every call of the library with the reference: `differential [CASES [SEED]]`.
 //!
-//! A case is a description, a state, an event and a head count; each of the five calls is made with them. Prints how often each
+//! A case is a description, a state, an event and a head count; each of the six calls is made with them. Prints how often each
 //! answer, room and size was met; exits with 1 at the first difference, or where one of them was never met.
 
 mod compare;
 mod head_counts;
 mod kinds;
+mod older;
 
 use compare::{compare, Case};
 use kinds::{due, Kind, Of};
@@ -49,7 +50,7 @@ impl List {
         let tokens = head_counts::tokens(&self.state, &places, numbers);
         let mut description = write_description(&self.net);
         let mut state = write_state(&self.state);
-        match numbers.within(1, 16) {
+        match numbers.within(1, 18) {
             1..=3 => description = damaged(&description, numbers),
             4..=5 => state = damaged(&state, numbers),
             6 => {
@@ -61,7 +62,8 @@ impl List {
                 nets::tighten(&mut tight, &self.state, event, numbers);
                 description = write_description(&tight);
             }
-            9 => {
+            9..=10 => state = write_state(&nets::at_edge(&self.net, &self.state, numbers)),
+            11 => {
                 let length = numbers.below(20);
                 let other = if numbers.one_in(2) { &mut description } else { &mut state };
                 *other = if numbers.one_in(2) { Vec::new() } else { numbers.bytes(length) };
@@ -126,7 +128,7 @@ fn main() -> ExitCode {
         return ExitCode::FAILURE;
     }
     let never = met.print(due());
-    println!("total: {cases} cases, {} calls, no difference", 5 * cases);
+    println!("total: {cases} cases, {} calls, no difference", 6 * cases);
     if !never.is_empty() {
         eprintln!("never met: {}", never.join(", "));
         return ExitCode::FAILURE;

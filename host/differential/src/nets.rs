@@ -2,7 +2,17 @@
 
 use crate::numbers::Numbers;
 use reference::description::{Group, Limit, Net};
-use reference::{judge, State, Verdict};
+use reference::{judge, State, Verdict, BOUND, OLDER_BOUND};
+
+/// Numbers at the bounds: the last that older observers read and the next one, the last that is read now and the next one.
+pub const EDGES: [u32; 4] = [OLDER_BOUND, OLDER_BOUND + 1, BOUND, BOUND + 1];
+
+/// From where to where numbers have their longest form, and the bound less any of them too.
+type Long = (u32, u32);
+const LONGEST: Long = (2_097_152, BOUND - 2_097_152);
+
+/// The same for older observers.
+const LONGEST_FOR_OLDER: Long = (16_384, OLDER_BOUND - 16_384);
 
 /// The sizes of a net, and how its parts are chosen.
 struct Shape {
@@ -17,10 +27,13 @@ struct Shape {
     loose: u32,
     /// Groups stand in chains as deep as can be, and every number has its longest form.
     longest: bool,
+    /// The largest count.
+    bound: u32,
 }
 
 /// The shape of the largest description.
-const LARGEST: Shape = Shape { places: 64, events: 64, groups: 32, depth: 8, limits: 16, filled: 8, loose: 0, longest: true };
+const LARGEST: Shape =
+    Shape { places: 64, events: 64, groups: 32, depth: 8, limits: 16, filled: 8, loose: 0, longest: true, bound: BOUND };
 
 fn shape(numbers: &mut Numbers) -> Shape {
     let most = match numbers.within(1, 1_000) {
@@ -41,6 +54,7 @@ fn shape(numbers: &mut Numbers) -> Shape {
         filled: numbers.within(1, 8),
         loose: numbers.pick(&[0, 0, 2, 4, 6, 8]),
         longest: false,
+        bound: BOUND,
     };
     // A size at its bound, or one past it.
     match numbers.within(1, 400) {
@@ -51,12 +65,14 @@ fn shape(numbers: &mut Numbers) -> Shape {
         5 => (shape.groups, shape.depth) = (numbers.within(9, 12), 9),
         // with places for a head count
         6..=8 => (shape.groups, shape.loose) = (numbers.within(31, 32), numbers.within(2, 8)),
+        // with a count one past its bound
+        9..=12 => (shape.groups, shape.bound) = (numbers.within(1, 8), BOUND + 1),
         _ => (),
     }
     shape
 }
 
-/// A net; it is well formed unless its shape has a size past the bounds.
+/// A net; it is well formed unless its shape has a size or a count past the bounds.
 pub fn net(numbers: &mut Numbers) -> Net {
     let shape = shape(numbers);
     let groups = groups(&shape, numbers);
@@ -69,7 +85,7 @@ pub fn net(numbers: &mut Numbers) -> Net {
         })
         .collect();
     let mut net = Net { homes, groups, takes: Vec::new(), gives: Vec::new(), limits: Vec::new() };
-    let counts = fitting(&net, shape.longest, numbers);
+    let counts = fitting(&net, shape.bound, shape.longest.then_some(LONGEST), numbers);
     net.groups.iter_mut().zip(counts).for_each(|(group, count)| group.count = count);
     for _ in 0..shape.events {
         let high = if shape.longest { 255 } else { numbers.pick(&[1, 2, 2, 4, 4, 255]) };
@@ -115,19 +131,22 @@ fn groups(shape: &Shape, numbers: &mut Numbers) -> Vec<Group> {
     groups
 }
 
-/// A number for each group, at most 65,535, whose own parts are at least 0, and 0 where no place lies directly in the group.
-fn fitting(net: &Net, longest: bool, numbers: &mut Numbers) -> Vec<u32> {
+/// A number for each group, at most the bound, whose own parts are at least 0, and 0 where no place lies directly in the group. If
+/// the bound is past that of counts, groups are filled up to it.
+fn fitting(net: &Net, bound: u32, long: Option<Long>, numbers: &mut Numbers) -> Vec<u32> {
     let mut whole = vec![0; net.groups.len()];
     let high = numbers.pick(&[0, 1, 3, 3, 10, 300]);
     for g in (1..=net.groups.len()).rev().filter(|g| net.homes.contains(g)) {
         let around: Vec<usize> =
             std::iter::successors(Some(g), |&g| Some(net.groups[g - 1].around).filter(|&g| g != 0)).collect();
-        let room = around.iter().map(|&g| 65_535 - whole[g - 1]).min().unwrap_or(0);
-        let own = match numbers.within(1, 40) {
-            _ if longest && whole[g - 1] == 0 => numbers.within(16_384, 50_000),
-            _ if longest => numbers.within(500, 1_500),
-            1 => room,
-            2 => numbers.within(0, room),
+        let room = around.iter().map(|&g| bound - whole[g - 1]).min().unwrap_or(0);
+        let own = match (long, numbers.within(1, 40)) {
+            _ if bound > BOUND => room,
+            (Some((low, high)), _) if whole[g - 1] == 0 => numbers.within(low, high),
+            (Some(_), _) => numbers.within(500, 1_500),
+            (_, 1) => room,
+            (_, 2) => numbers.within(0, room),
+            (_, 3) => numbers.pick(&EDGES).saturating_sub(whole[g - 1]),
             _ => numbers.within(0, high),
         };
         around.iter().for_each(|&g| whole[g - 1] += own.min(room));
@@ -180,19 +199,36 @@ pub fn deepest(net: &Net) -> usize {
 /// A state that fits the net and that perhaps no history gave.
 pub fn state(net: &Net, numbers: &mut Numbers) -> State {
     // Few nets can have the longest state, or get it by a head count.
-    let longest = if net.groups.len() > 30 { !numbers.one_in(8) } else { numbers.one_in(8) };
+    let is_long = if net.groups.len() > 30 { !numbers.one_in(8) } else { numbers.one_in(8) };
+    let long = is_long.then(|| numbers.pick(&[LONGEST, LONGEST, LONGEST, LONGEST_FOR_OLDER]));
     let high = numbers.pick(&[0, 1, 3, 3, 10, 300]);
     let estimates = (0..net.places())
-        .map(|_| match numbers.within(1, 40) {
-            // of which 65,535 tokens leave as long a number unplaced
-            _ if longest => numbers.within(16_384, 49_151),
-            1 => 65_535,
-            2 => numbers.within(65_200, 65_535),
-            3 => numbers.within(0, 65_535),
+        .map(|_| match (long, numbers.within(1, 40)) {
+            (Some((low, high)), _) => numbers.within(low, high),
+            (_, 1) => numbers.pick(&EDGES[..3]),
+            // from where one event passes the bound
+            (_, 2) => numbers.pick(&EDGES) - numbers.pick(&[1, 2, 3, 4, 255]),
+            (_, 3) => numbers.within(0, OLDER_BOUND),
+            (_, 4) => numbers.within(0, BOUND),
             _ => numbers.within(0, high),
         })
         .collect();
-    State { estimates, unplaced: fitting(net, longest, numbers) }
+    State { estimates, unplaced: fitting(net, BOUND, long, numbers) }
+}
+
+/// The state with one number at a bound or one past it. It fits as it did before where the number is not past the bound, and where
+/// what is unplaced inside a group is not more than what is unplaced in it.
+pub fn at_edge(net: &Net, state: &State, numbers: &mut Numbers) -> State {
+    let mut state = state.clone();
+    let outermost: Vec<usize> =
+        (1..=net.groups.len()).filter(|g| net.groups[g - 1].around == 0 && net.homes.contains(g)).collect();
+    let edge = numbers.pick(&EDGES);
+    if outermost.is_empty() || numbers.one_in(2) {
+        state.estimates[numbers.below(net.places())] = edge;
+    } else {
+        state.unplaced[numbers.pick(&outermost) - 1] = edge;
+    }
+    state
 }
 
 /// Moves the ceiling of a limit to where it just holds an event at a state, or just does not: one less or more decides.

@@ -65,6 +65,7 @@ fn by_library(words: &Words, d: &[u8], s: &[u8]) -> Answer {
             yarrowbeam::Verdict::Allow => "allow".to_string(),
             yarrowbeam::Verdict::Hold(limit) => format!("hold {limit}"),
         }),
+        ["older", ..] => yarrowbeam::older(d, s, lent).map(|length| hex(&lent[..length])),
         ["known"] => yarrowbeam::known(d, s).map(|known| if known { "yes" } else { "no" }.to_string()),
         ["count", n, "at", ..] => {
             let written = yarrowbeam::count(d, s, &places(words), number(n), described, lent);
@@ -78,10 +79,8 @@ fn by_library(words: &Words, d: &[u8], s: &[u8]) -> Answer {
 
 fn by_reference(words: &Words, d: &[u8], s: &[u8]) -> Answer {
     let [room, state_room] = rooms(words);
-    let written = |state| {
-        let bytes = write_state(&state);
-        if bytes.len() <= state_room { Ok(hex(&bytes)) } else { Err(13u32) }
-    };
+    let fitting = |bytes: Vec<u8>| if bytes.len() <= state_room { Ok(hex(&bytes)) } else { Err(13u32) };
+    let written = |state| fitting(write_state(&state));
     let net = read_description(d)?;
     if words[0] == "fresh" {
         return Ok((written(reference::fresh(&net))?, d.to_vec()));
@@ -93,6 +92,7 @@ fn by_reference(words: &Words, d: &[u8], s: &[u8]) -> Answer {
             reference::Verdict::Allow => "allow".to_string(),
             reference::Verdict::Hold(limit) => format!("hold {limit}"),
         },
+        ["older", ..] => fitting(reference::older(&state)?)?,
         ["count", n, "at", ..] => {
             let (net, state) = reference::count(&net, &state, &places(words), number(n))?;
             let described = write_description(&net);
@@ -180,7 +180,7 @@ impl Example {
     fn whole(&mut self, description: Vec<u8>, shown: &str) {
         self.description = description;
         let refused = shown.starts_with("refused");
-        let others: &[&str] = if refused { &["record 1", "judge 1", "known", "count 0 at 01"] } else { &[] };
+        let others: &[&str] = if refused { &["record 1", "judge 1", "known", "count 0 at 01", "older"] } else { &[] };
         for call in [&["fresh"], others].concat() {
             self.call(call, shown);
         }
@@ -225,7 +225,7 @@ fn examples() {
     let blocks = page.split("```example\n").skip(1).map(|rest| rest.split("```").next().unwrap_or(rest));
     let examples: Vec<Example> = blocks.map(Example::read).collect();
     let met: BTreeSet<&String> = examples.iter().flat_map(|example| &example.refusals).collect();
-    let all: Vec<String> = (1..=16).map(|refusal| format!("refused {refusal}")).collect();
+    let all: Vec<String> = (1..=17).map(|refusal| format!("refused {refusal}")).collect();
     assert_eq!(met, all.iter().collect(), "each refusal has an example");
     let mut line = examples.into_iter().find(|example| !example.description.is_empty()).expect("an example of a net");
     line.state = write_state(&reference::fresh(&read_description(&line.description).expect("a net")));

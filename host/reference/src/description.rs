@@ -1,7 +1,7 @@
 //! Nets and their descriptions.
 
 use crate::number::{put_number, put_signed, Bytes};
-use crate::Refusal;
+use crate::{Refusal, BOUND};
 
 #[derive(Clone, Debug, PartialEq, Eq)]
 pub struct Group {
@@ -72,6 +72,8 @@ fn require(yes: bool, refusal: Refusal) -> Result<(), Refusal> {
 struct Members {
     homes: Vec<Option<usize>>,
     groups: Vec<Group>,
+    /// The largest count.
+    bound: u32,
 }
 
 /// A member list of group g, whose members that are groups are at the given depth.
@@ -95,7 +97,7 @@ fn read_list(bytes: &mut Bytes, members: &mut Members, g: usize, depth: usize) -
                 require(members.groups.len() < 32 && depth <= 8, 3)?;
                 seen_group = true;
                 let count = bytes.number()?;
-                require(count <= 65_535, 4)?;
+                require(count <= members.bound, 4)?;
                 members.groups.push(Group { around: g, count });
                 let number = members.groups.len();
                 read_list(bytes, members, number, depth + 1)?;
@@ -151,6 +153,11 @@ fn read_limit(bytes: &mut Bytes, places: usize) -> Result<Limit, Refusal> {
 
 /// The net of a description, or the refusal that comes first.
 pub fn read_description(description: &[u8]) -> Result<Net, Refusal> {
+    read_description_within(description, BOUND)
+}
+
+/// The same where counts have another bound.
+pub fn read_description_within(description: &[u8], bound: u32) -> Result<Net, Refusal> {
     let mut bytes = Bytes::new(description);
     require(bytes.number()? == 1, 2)?;
     let places = bytes.number()? as usize;
@@ -159,7 +166,7 @@ pub fn read_description(description: &[u8]) -> Result<Net, Refusal> {
     require((1..=64).contains(&events), 3)?;
     let limits = bytes.number()? as usize;
     require(limits <= 16, 3)?;
-    let mut members = Members { homes: vec![None; places], groups: Vec::new() };
+    let mut members = Members { homes: vec![None; places], groups: Vec::new(), bound };
     read_list(&mut bytes, &mut members, 0, 1)?;
     let homes = members.homes.into_iter().collect::<Option<Vec<usize>>>().ok_or(6u32)?;
     let mut net = Net { homes, groups: members.groups, takes: Vec::new(), gives: Vec::new(), limits: Vec::new() };

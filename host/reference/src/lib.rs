@@ -1,4 +1,5 @@
-//! The scope document in plain Rust: descriptions, states, recording, judging, head counts and the journal.
+//! The scope document in plain Rust: descriptions, states, recording, judging, head counts, states for older
+//! observers and the journal.
 //!
 //! It is written from the scope document and the changes requested later alone, and shares nothing with the proved code, so that
 //! the two can be compared.
@@ -9,11 +10,17 @@ pub mod journal;
 pub mod number;
 pub mod observer;
 
-pub use description::{read_description, write_description, Net};
-pub use observer::{count, fresh, judge, known, read_state, record, write_state, State, Verdict};
+pub use description::{read_description, read_description_within, write_description, Net};
+pub use observer::{count, fresh, judge, known, older, read_state, read_state_within, record, write_state, State, Verdict};
 
 /// "Number when the answer is no".
 pub type Refusal = u32;
+
+/// The largest count, estimate, unplaced number and head count.
+pub const BOUND: u32 = 16_777_215;
+
+/// The same for older observers.
+pub const OLDER_BOUND: u32 = 65_535;
 
 /// The bytes of "The pool of three".
 pub const POOL: [u8; 39] = [

@@ -53,7 +53,12 @@ mod tests {
 
     #[test]
     fn forms() {
-        for (value, form) in [(127u32, vec![0x7F]), (128, vec![0x80, 0x01]), (65_535, vec![0xFF, 0xFF, 0x03])] {
+        for (value, form) in [
+            (127u32, vec![0x7F]),
+            (128, vec![0x80, 0x01]),
+            (65_535, vec![0xFF, 0xFF, 0x03]),
+            (16_777_216, vec![0x80, 0x80, 0x80, 0x08]),
+        ] {
             let mut out = Vec::new();
             put_number(&mut out, value);
             assert_eq!(out, form);

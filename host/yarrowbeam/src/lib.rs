@@ -42,10 +42,10 @@ mod refusal;
 pub use refusal::Refusal;
 
 /// The length of the largest description.
-pub const LARGEST_DESCRIPTION: usize = 24_005;
+pub const LARGEST_DESCRIPTION: usize = 24_037;
 
 /// The length of the largest state: an output of so many bytes is enough for any.
-pub const LARGEST_STATE: usize = 291;
+pub const LARGEST_STATE: usize = 387;
 
 /// The most bytes of stack that the library uses in a call.
 pub const LARGEST_STACK: usize = 6_144;
@@ -118,6 +118,27 @@ pub fn count(
     let answer = accepted(library::count(description, state, places, n, described, out))?;
     // one number for both: the bytes of the description times 2^32, plus those of the state
     Ok(((answer >> 32) as usize, answer as u32 as usize))
+}
+
+/// Writes the same state in edition 1 for older observers, whose counts, estimates and unplaced numbers end at 65,535; no number
+/// is changed. The counts of the description are not asked: an older observer refuses a description that has a larger one.
+/// Answers the number of bytes written, or refusal 1 to 9, 13 or 17.
+///
+/// ```
+/// use yarrowbeam::{older, Refusal, LARGEST_STATE};
+///
+/// // one loose place, and an event without arcs; 65,535 tokens were seen at the place, and 65,536
+/// let description = [1, 1, 1, 0, 1, 0, 1, 0];
+/// let (state, larger) = ([1, 1, 0xFF, 0xFF, 0x03, 0], [1, 1, 0x80, 0x80, 0x04, 0]);
+/// let mut out = [0; LARGEST_STATE];
+/// let length = older(&description, &state, &mut out)?;
+/// assert_eq!(out[..length], state);
+/// assert_eq!(older(&description, &larger, &mut out), Err(Refusal::TooLarge));
+/// # Ok::<(), Refusal>(())
+/// ```
+#[inline]
+pub fn older(description: &[u8], state: &[u8], out: &mut [u8]) -> Result<usize, Refusal> {
+    written(library::older(description, state, out))
 }
 
 /// An answer from 0 up; one below 0 is a refusal, minus its number.

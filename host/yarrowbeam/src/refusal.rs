@@ -3,8 +3,8 @@ use std::fmt;
 /// Why a call refuses.
 ///
 /// Of 1 to 8, the description's bytes are read forwards: the first fault that is met is answered, and of several at one number
-/// the lowest. Then follow 9; of an event 10 to 12, of a head count 14 to 16; and 13 comes last. A call skips those that do not
-/// concern it.
+/// the lowest. Then follow 9; of an event 10 to 12, of a head count 14 to 16, of a state for older observers 17; and 13 comes
+/// last. A call skips those that do not concern it.
 #[derive(Clone, Copy, Debug, PartialEq, Eq, PartialOrd, Ord, Hash)]
 pub enum Refusal {
     /// A stored number of the description is not complete, not in its shortest form or too large.
@@ -29,21 +29,23 @@ pub enum Refusal {
     Event = 10,
     /// The event is impossible.
     Impossible = 11,
-    /// The event is possible, and some estimate after it would be above 65,535.
+    /// The event is possible, and some estimate after it would be above 16,777,215.
     OverRange = 12,
     /// A result does not fit its output.
     Room = 13,
     /// The list of places is empty, or a byte of it names no loose place, or one for the second time.
     NotLoose = 14,
-    /// The head count is below the sum of the estimates there, or above 65,535.
+    /// The head count is below the sum of the estimates there, or above 16,777,215.
     Miscounted = 15,
     /// The head count would make a 33rd group.
     NoGroupLeft = 16,
+    /// Some estimate or unplaced number of the state is above 65,535, which older observers do not read.
+    TooLarge = 17,
 }
 
 impl Refusal {
     /// All refusals, by number.
-    pub const ALL: [Refusal; 16] = [
+    pub const ALL: [Refusal; 17] = [
         Refusal::Number,
         Refusal::Edition,
         Refusal::Size,
@@ -60,18 +62,19 @@ impl Refusal {
         Refusal::NotLoose,
         Refusal::Miscounted,
         Refusal::NoGroupLeft,
+        Refusal::TooLarge,
     ];
 
-    /// Its number, from 1 to 16.
+    /// Its number, from 1 to 17.
     pub fn number(self) -> u32 {
         self as u32
     }
 
-    /// The refusal with this number. The library is proved to answer no others than 1 to 16.
+    /// The refusal with this number. The library is proved to answer no others than 1 to 17.
     pub(crate) fn from_number(number: u64) -> Refusal {
         match number {
-            1..=16 => Refusal::ALL[number as usize - 1],
-            _ => panic!("the library answered refusal {number}, which is not from 1 to 16"),
+            1..=17 => Refusal::ALL[number as usize - 1],
+            _ => panic!("the library answered refusal {number}, which is not from 1 to 17"),
         }
     }
 
@@ -88,11 +91,12 @@ impl Refusal {
             Refusal::State => "the state is not well formed or does not fit the net",
             Refusal::Event => "the event number is not one of the net's",
             Refusal::Impossible => "the event is impossible",
-            Refusal::OverRange => "some estimate after the event would be above 65,535",
+            Refusal::OverRange => "some estimate after the event would be above 16,777,215",
             Refusal::Room => "a result does not fit its output",
             Refusal::NotLoose => "the list of places is empty, or a byte of it names no loose place, or one for the second time",
-            Refusal::Miscounted => "the head count is below the sum of the estimates there, or above 65,535",
+            Refusal::Miscounted => "the head count is below the sum of the estimates there, or above 16,777,215",
             Refusal::NoGroupLeft => "the head count would make a 33rd group",
+            Refusal::TooLarge => "some estimate or unplaced number of the state is above 65,535",
         }
     }
 }

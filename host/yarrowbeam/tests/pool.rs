@@ -1,6 +1,6 @@
 //! The pool of three: every call, and every refusal.
 
-use yarrowbeam::{count, fresh, judge, known, record, Refusal, Verdict, LARGEST_DESCRIPTION, LARGEST_STATE};
+use yarrowbeam::{count, fresh, judge, known, older, record, Refusal, Verdict, LARGEST_DESCRIPTION, LARGEST_STATE};
 
 const POOL: [u8; 39] = [
     0x01, 0x03, 0x03, 0x01, 0x01, 0x01, 0x03, 0x03, 0x00, 0x01, 0x00, 0x02, 0x00, 0x03, 0x02, 0x01, 0x01, 0x00, 0x02, 0x00, 0x01,
@@ -8,6 +8,23 @@ const POOL: [u8; 39] = [
 ];
 
 const FRESH: [u8; 7] = [1, 3, 0, 0, 0, 1, 3];
+
+/// Stored numbers: the last that older observers read, 65,535, and the next one; the last that is read now, 16,777,215, and the
+/// next one.
+const OLDER_LAST: [u8; 3] = [0xFF, 0xFF, 0x03];
+const OLDER_NEXT: [u8; 3] = [0x80, 0x80, 0x04];
+const LAST: [u8; 4] = [0xFF, 0xFF, 0xFF, 0x07];
+const NEXT: [u8; 4] = [0x80, 0x80, 0x80, 0x08];
+
+/// The pool with another count.
+fn pool_of(count: &[u8]) -> Vec<u8> {
+    [&POOL[..6], count, &POOL[7..]].concat()
+}
+
+/// A state of the pool, with tokens at place 2.
+fn state_of(estimate: &[u8], unplaced: &[u8]) -> Vec<u8> {
+    [&[1, 3, 0], estimate, &[0, 1], unplaced].concat()
+}
 
 #[test]
 fn from_fresh_to_known() {
@@ -52,6 +69,7 @@ fn refusals_of_descriptions() {
         let mut described = [0xA5; 50];
         assert_eq!(count(&description, &FRESH, &[1], 3, &mut described, &mut out), Err(refusal));
         assert_eq!(described, [0xA5; 50]);
+        assert_eq!(older(&description, &FRESH, &mut out), Err(refusal));
         assert_eq!(out, [0xA5; LARGEST_STATE]);
     }
 }
@@ -64,6 +82,7 @@ fn the_first_fault_that_is_met() {
     assert_eq!(judge(&[0x01, 0x41], &[], 0), Err(Refusal::Size));
     assert_eq!(known(&[0x01, 0x41], &[]), Err(Refusal::Size));
     assert_eq!(count(&[0x01, 0x41], &[], &[], 0, &mut [], &mut []), Err(Refusal::Size));
+    assert_eq!(older(&[0x01, 0x41], &[], &mut []), Err(Refusal::Size));
     // place 0 after place 1 is out of range and out of order: at one number the lowest
     let mut description = POOL;
     description[11] = 0;
@@ -76,7 +95,7 @@ fn the_first_fault_that_is_met() {
 #[test]
 fn refusals_of_states_events_and_rooms() {
     let placed = [1, 3, 0, 3, 0, 1, 0];
-    let high = [1, 3, 0, 0xFF, 0xFF, 0x03, 0, 1, 3];
+    let high = state_of(&LAST, &[3]);
     let cases = [
         (Refusal::State, &FRESH[..6], 1, 7),
         (Refusal::State, &[], 1, 7),
@@ -97,6 +116,53 @@ fn refusals_of_states_events_and_rooms() {
         assert_eq!(known(&POOL, state), if refusal == Refusal::State { Err(refusal) } else { Ok(state == placed) });
     }
     assert_eq!(fresh(&POOL, &mut [0; 6]), Err(Refusal::Room));
+}
+
+#[test]
+fn numbers_up_to_16_777_215() {
+    let mut out = [0xA5; LARGEST_STATE];
+    for count in [&OLDER_LAST[..], &OLDER_NEXT, &LAST] {
+        let expected = state_of(&[0], count);
+        assert_eq!(fresh(&pool_of(count), &mut out), Ok(expected.len()));
+        assert_eq!(out[..expected.len()], expected);
+    }
+    assert_eq!(fresh(&pool_of(&NEXT), &mut out), Err(Refusal::Range));
+    let expected = state_of(&OLDER_NEXT, &[2]);
+    assert_eq!(record(&POOL, &state_of(&OLDER_LAST, &[3]), 1, &mut out), Ok(expected.len()));
+    assert_eq!(out[..expected.len()], expected);
+    assert_eq!(record(&POOL, &state_of(&LAST, &[3]), 1, &mut out), Err(Refusal::OverRange));
+    for unfit in [state_of(&NEXT, &[3]), state_of(&[0], &NEXT)] {
+        assert_eq!(known(&POOL, &unfit), Err(Refusal::State));
+    }
+}
+
+#[test]
+fn states_for_older_observers() {
+    // also where the count is too large for older observers
+    let full = state_of(&OLDER_LAST, &OLDER_LAST);
+    for (description, state) in [(POOL.to_vec(), FRESH.to_vec()), (POOL.to_vec(), full.clone()), (pool_of(&LAST), full)] {
+        let mut out = [0xA5; LARGEST_STATE];
+        assert_eq!(older(&description, &state, &mut out), Ok(state.len()));
+        assert_eq!(out[..state.len()], state);
+        assert_eq!(out[state.len()..], [0xA5; LARGEST_STATE][state.len()..]);
+        assert_eq!(older(&description, &state, &mut out[..state.len()]), Ok(state.len()));
+        assert_eq!(older(&description, &state, &mut out[..state.len() - 1]), Err(Refusal::Room));
+    }
+    for (refusal, state) in [
+        (Refusal::TooLarge, state_of(&OLDER_NEXT, &[3])),
+        (Refusal::TooLarge, state_of(&[0], &OLDER_NEXT)),
+        (Refusal::TooLarge, state_of(&LAST, &LAST)),
+        (Refusal::State, state_of(&NEXT, &OLDER_NEXT)),
+        (Refusal::State, state_of(&OLDER_NEXT, &NEXT)),
+        (Refusal::State, FRESH[..6].to_vec()),
+        (Refusal::State, Vec::new()),
+    ] {
+        for room in [0, 7, LARGEST_STATE] {
+            let mut out = [0xA5; LARGEST_STATE];
+            assert_eq!(older(&POOL, &state, &mut out[..room]), Err(refusal));
+            assert_eq!(out, [0xA5; LARGEST_STATE]);
+        }
+    }
 }
 
 /// The pool with its places loose, and its state after event 1.
@@ -146,7 +212,7 @@ fn refusals_of_head_counts() {
         (Refusal::NotLoose, &loose, &state, &[1, 2, 1], 3),
         (Refusal::NotLoose, &in_a_group, &[1, 3, 0, 1, 0, 1, 1], &[1, 2], 3),
         (Refusal::Miscounted, &loose, &state, &[2], 0),
-        (Refusal::Miscounted, &loose, &state, &[2], 65_536),
+        (Refusal::Miscounted, &loose, &state, &[2], 16_777_216),
         (Refusal::NoGroupLeft, &full, &in_full, &[2], 0),
     ];
     for (refusal, description, state, places, n) in cases {
@@ -160,6 +226,18 @@ fn refusals_of_head_counts() {
         if answer.is_err() {
             assert_eq!((described, out), ([0xA5; 39], [0xA5; 7]));
         }
+    }
+}
+
+#[test]
+fn head_counts_up_to_16_777_215() {
+    let (loose, state) = loose_pool();
+    for (n, stored, rest) in [(65_536, &OLDER_NEXT[..], &OLDER_LAST[..]), (16_777_215, &LAST, &[0xFE, 0xFF, 0xFF, 0x07])] {
+        let (mut described, mut out) = ([0xA5; 60], [0xA5; 60]);
+        let (description, after) = (pool_of(stored), state_of(&[1], rest));
+        let lengths = (description.len(), after.len());
+        assert_eq!(count(&loose, &state, &[1, 2, 3], n, &mut described, &mut out), Ok(lengths));
+        assert_eq!((&described[..lengths.0], &out[..lengths.1]), (&description[..], &after[..]));
     }
 }
 

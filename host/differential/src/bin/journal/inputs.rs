@@ -3,7 +3,7 @@
 use crate::kinds::BUFFER;
 use reference::description::{Group, Limit, Net};
 use reference::number::put_number;
-use reference::{write_description, POOL};
+use reference::{write_description, BOUND, OLDER_BOUND, POOL};
 use seeded::damage::damaged;
 use seeded::nets;
 use seeded::numbers::Numbers;
@@ -93,7 +93,7 @@ pub fn short() -> Vec<Vec<u8>> {
 fn long_descriptions() -> Vec<Vec<u8>> {
     let mut largest = Vec::new();
     let mut numbers = Numbers(1);
-    while largest.len() < 24_005 {
+    while largest.len() < 24_037 {
         largest = write_description(&nets::net(&mut numbers));
     }
     let fronts = [&[2][..], &POOL[..38], &POOL, &largest];
@@ -122,8 +122,19 @@ fn long_lists() -> Vec<Vec<u8>> {
     lists.iter().map(|list| input(&POOL, list)).collect()
 }
 
+/// A loose place that comes to 65,535, past it, and to 16,777,215 by steps of 255; a step of one more is out of range.
+fn filling() -> Vec<u8> {
+    let steps = [(0, 255), (0, 1), (1, 1)];
+    let row = |of: fn(&(u32, u32)) -> u32| steps.iter().map(|step| vec![of(step)]).collect();
+    let (takes, gives) = (row(|step| step.0), row(|step| step.1));
+    let net = Net { homes: vec![0], groups: Vec::new(), takes, gives, limits: Vec::new() };
+    let mut events = vec![1; (BOUND / 255) as usize];
+    events.extend([1, 2, 3]);
+    input(&write_description(&net), &events)
+}
+
 pub fn long() -> Vec<Vec<u8>> {
-    [long_descriptions(), long_lists()].concat()
+    [long_descriptions(), long_lists(), vec![filling()]].concat()
 }
 
 /// The pool of three with its first event, and then one event after the other: each piece gives a line.
@@ -144,7 +155,7 @@ fn of_length(numbers: &mut Numbers) -> u32 {
     numbers.within(low, high)
 }
 
-/// Events, mostly of the net; or one over and over, until an estimate is out of range.
+/// Events, mostly of the net; or one over and over, until an estimate is too large for older observers, at times out of range.
 fn events(net: &Net, numbers: &mut Numbers) -> Vec<u32> {
     let last = net.takes.len() as u32;
     let gains = |event: &u32| {
@@ -154,7 +165,8 @@ fn events(net: &Net, numbers: &mut Numbers) -> Vec<u32> {
     if numbers.one_in(16) {
         let most = (1..=last).max_by_key(gains).unwrap_or(1);
         if net.places() < 20 && gains(&most) >= 100 {
-            return vec![most; 65_536 / gains(&most) as usize + 4];
+            let bound = if numbers.one_in(4) { BOUND } else { OLDER_BOUND };
+            return vec![most; (bound / gains(&most)) as usize + 4];
         }
     }
     let count = if numbers.one_in(8) { 60 } else { 12 };

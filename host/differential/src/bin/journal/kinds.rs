@@ -18,6 +18,10 @@ pub fn count(input: &[u8], printed: &str, met: &mut Met<String>) {
             [_, word @ ("hold" | "refused"), number, ..] => met.count(format!("line: {word} {number}")),
             _ => (),
         }
+        let tokens: Vec<u32> = words.iter().skip(3).filter_map(|word| word.parse().ok()).collect();
+        for edge in [65_535, 65_536, 16_777_215].into_iter().filter(|edge| tokens.contains(edge)) {
+            met.count(format!("line: {edge} tokens"));
+        }
     }
     let end = follow(input, met);
     met.count(format!("end: {end}"));
@@ -82,6 +86,7 @@ pub fn due() -> Vec<String> {
         words("line: ", &["allow"]),
         numbers("line: hold ", 1..=16, ""),
         numbers("line: refused ", 10..=12, ""),
+        words("line: ", &["65535 tokens", "65536 tokens", "16777215 tokens"]),
         words("event number: ", &["0", "T + 1"]),
         numbers("event number: ", 1..=5, " bytes"),
         words("end: ", &["silent"]),

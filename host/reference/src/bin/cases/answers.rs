@@ -1,7 +1,7 @@
 //! What the program must say of a case.
 
 use crate::Call;
-use reference::{count, fresh, judge, known, read_description, read_state, record, write_description, write_state};
+use reference::{count, fresh, judge, known, older, read_description, read_state, record, write_description, write_state};
 use reference::{Refusal, State, Verdict};
 
 /// What stands after the label. A call of the observer is answered twice, on bytes and on values in memory.
@@ -23,6 +23,12 @@ pub fn counted(d: &[u8], s: &[u8], places: &[u8], tokens: u32, rooms: [u32; 2]) 
         let (net, state) = count(&net, &read_state(&net, s)?, places, tokens)?;
         Ok(format!("{},{}", fitting(&write_description(&net), rooms[0])?, written(&state, rooms[1])?))
     };
+    words(answer())
+}
+
+/// What stands after the label of a state for older observers, which is answered on bytes alone.
+pub fn for_older(d: &[u8], s: &[u8], room: u32) -> String {
+    let answer = || fitting(&older(&read_state(&read_description(d)?, s)?)?, room);
     words(answer())
 }
 

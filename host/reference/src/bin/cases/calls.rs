@@ -6,7 +6,7 @@ use reference::description::{Group, Limit};
 use reference::{fresh, read_description, record, write_description, write_state, Net, State, POOL};
 
 /// More room than any state of the cases needs.
-pub const ROOM: u32 = 300;
+pub const ROOM: u32 = 400;
 
 /// The fresh state of the pool.
 const POOL_STATE: [u8; 7] = [0x01, 0x03, 0x00, 0x00, 0x00, 0x01, 0x03];
@@ -20,6 +20,7 @@ pub fn add(cases: &mut Cases) {
     empty_groups(cases);
     depth(cases);
     weights(cases);
+    longest_state(cases);
     refused_descriptions(cases);
     many_shapes(cases);
 }
@@ -105,6 +106,7 @@ fn faulty_states(cases: &mut Cases) {
         for call in [Call::Record, Call::Judge, Call::Known] {
             cases.add(&format!("state with {fault}, call {}", call as u32), &POOL, bytes, call, 1, ROOM);
         }
+        cases.older(&format!("state with {fault}, older"), &POOL, bytes, ROOM);
     };
     check("edition 0", &[0x00, 0x03, 0x00, 0x00, 0x00, 0x01, 0x03]);
     check("edition 2", &[0x02, 0x03, 0x00, 0x00, 0x00, 0x01, 0x03]);
@@ -112,10 +114,10 @@ fn faulty_states(cases: &mut Cases) {
     check("four places", &state(&[0, 0, 0, 0], &[3]));
     check("no group", &state(&[0, 0, 0], &[]));
     check("two groups", &state(&[0, 0, 0], &[3, 0]));
-    check("estimate 65535", &state(&[65_535, 0, 0], &[3]));
-    check("estimate 65536", &state(&[65_536, 0, 0], &[3]));
-    check("unplaced 65535", &state(&[0, 0, 0], &[65_535]));
-    check("unplaced 65536", &state(&[0, 0, 0], &[65_536]));
+    for n in [65_535, 65_536, 16_777_215, 16_777_216] {
+        check(&format!("estimate {n}"), &state(&[n, 0, 0], &[3]));
+        check(&format!("unplaced {n}"), &state(&[0, 0, 0], &[n]));
+    }
     check("a longer form", &[0x01, 0x03, 0x80, 0x00, 0x00, 0x00, 0x01, 0x03]);
     check("a byte more", &[0x01, 0x03, 0x00, 0x00, 0x00, 0x01, 0x03, 0x00]);
     for length in 0..POOL_STATE.len() {
@@ -138,17 +140,15 @@ fn nested(cases: &mut Cases) {
     }
 }
 
-/// An estimate that comes to 65,535, and then out of range.
+/// Estimates that come to 65,535 and pass it, and that come to 16,777,215 and then out of range.
 fn filling(cases: &mut Cases) {
-    let filling = net(
-        &[1, 0],
-        &[(0, 3)],
-        &[&[(1, 0, 255)], &[(1, 0, 1)], &[(2, 1, 255)]],
-        &[(65_535, &[(1, 1)])],
-    );
-    for estimate in [65_279, 65_280, 65_281, 65_534, 65_535] {
-        for event in 1..=3 {
-            cases.event(&format!("filling at {estimate}"), &filling, &state(&[estimate, estimate], &[3]), event);
+    for full in [65_535, 16_777_215] {
+        let events: [&[Arc]; 3] = [&[(1, 0, 255)], &[(1, 0, 1)], &[(2, 1, 255)]];
+        let filling = net(&[1, 0], &[(0, 3)], &events, &[(i64::from(full), &[(1, 1)])]);
+        for estimate in [full - 256, full - 255, full - 254, full - 1, full] {
+            for event in 1..=3 {
+                cases.event(&format!("filling at {estimate}"), &filling, &state(&[estimate, estimate], &[3]), event);
+            }
         }
     }
 }
@@ -162,7 +162,9 @@ fn loose(cases: &mut Cases) {
         &[(10, &[(1, -1)]), (0, &[(2, 1)]), (-5, &[(1, -2), (2, -1)])],
     );
     cases.course("loose", &loose, &[1, 2, 3, 3]);
-    cases.event("loose at the limit", &loose, &state(&[9, 65_535], &[]), 1);
+    for estimate in [65_535, 16_777_215] {
+        cases.event(&format!("loose at {estimate}"), &loose, &state(&[9, estimate], &[]), 1);
+    }
 }
 
 fn empty_groups(cases: &mut Cases) {
@@ -208,11 +210,29 @@ fn weights(cases: &mut Cases) {
         ([0, 3, 4, 0], [0, 0]),
         ([6, 0, 1, 0], [0, 3]),
         ([65_535, 9, 9, 9], [65_535, 65_535]),
+        ([16_777_215, 9, 9, 9], [16_777_215, 16_777_215]),
     ] {
         for event in 1..=5 {
             cases.event(&format!("weights at {estimates:?} {unplaced:?}"), &weights, &state(&estimates, &unplaced), event);
         }
     }
+}
+
+/// 64 places, two in each of 32 groups of 16,777,215; an event without arcs, and one that takes 255 from the last place.
+pub fn longest() -> Vec<u8> {
+    let homes: Vec<usize> = (0..64).map(|p| 1 + p / 2).collect();
+    net(&homes, &[(0, 16_777_215); 32], &[&[], &[(64, 255, 0)]], &[])
+}
+
+/// The longest state, 387 bytes; it is a byte shorter where an estimate falls below 2,097,152.
+fn longest_state(cases: &mut Cases) {
+    let s = |last: u32| state(&[&[16_777_215; 63][..], &[last]].concat(), &[16_777_215; 32]);
+    assert_eq!(s(16_777_215).len(), 387);
+    for (room, event, last) in [(387, 1, 16_777_215), (386, 1, 16_777_215), (386, 2, 2_097_152), (387, 2, 2_097_407)] {
+        let label = format!("the longest state with {last}, record {event} in {room}");
+        cases.add(&label, &longest(), &s(last), Call::Record, event, room);
+    }
+    cases.add("the longest state, known", &longest(), &s(16_777_215), Call::Known, 0, 0);
 }
 
 /// A description that is refused, with a state and an event that would be too.
@@ -231,7 +251,8 @@ fn refused_descriptions(cases: &mut Cases) {
         for call in [Call::Fresh, Call::Record, Call::Judge, Call::Known] {
             cases.add(&format!("description refused {refusal}, call {}", call as u32), &d, &[0x07], call, 0, 0);
         }
-        cases.count(&format!("description refused {refusal}, count"), &d, &[0x07], &[], 65_536, [0, 0]);
+        cases.count(&format!("description refused {refusal}, count"), &d, &[0x07], &[], 16_777_216, [0, 0]);
+        cases.older(&format!("description refused {refusal}, older"), &d, &[0x07], 0);
     }
 }
 

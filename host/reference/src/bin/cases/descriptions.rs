@@ -46,10 +46,11 @@ fn sizes(describe: &mut Describe) {
     describe("no event", events(0).bytes());
     describe("16 limits", limits(16).bytes());
     describe("17 limits", limits(17).bytes());
-    describe("count 65535", count(65_535).bytes());
-    describe("count 65536", count(65_536).bytes());
+    for n in [65_535, 65_536, 16_777_215, 16_777_216] {
+        describe(&format!("count {n}"), count(n).bytes());
+    }
     let largest = Parts::largest().bytes();
-    assert_eq!(largest.len(), 24_005);
+    assert_eq!(largest.len(), 24_037);
     describe("the largest description", largest);
 }
 
@@ -67,7 +68,7 @@ fn nesting(describe: &mut Describe) {
     };
     describe("depth 8", nest(8, vec![Place(1)]));
     describe("depth 9", nest(9, vec![Place(1)]));
-    describe("depth 9 with a count past its bound", nest(8, vec![Place(1), Group(70_000, vec![])]));
+    describe("depth 9 with a count past its bound", nest(8, vec![Place(1), Group(16_777_216, vec![])]));
     describe("32 groups", empty(1, 32));
     describe("33 groups", empty(1, 33));
     describe("a list of 96", empty(64, 32));

@@ -9,6 +9,7 @@ pub fn add(cases: &mut Cases) {
     refused(cases);
     rooms(cases);
     groups(cases);
+    longest(cases);
     one_after_the_other(cases);
 }
 
@@ -27,9 +28,9 @@ fn one_seen() -> Vec<u8> {
     state(&[0, 0, 0, 1, 0], &[5, 2])
 }
 
-/// A state that no list of calls gave.
-fn given() -> Vec<u8> {
-    state(&[65_000, 65_535, 7, 400, 9], &[65_535, 65_535])
+/// A state that no list of calls gave, with numbers up to this one.
+fn given(most: u32) -> Vec<u8> {
+    state(&[most - 535, most, 7, 400, 9], &[most, most])
 }
 
 impl Cases {
@@ -40,25 +41,35 @@ impl Cases {
     }
 }
 
-/// Lists in any order, and numbers of one, two and three bytes from the estimates up to the bound.
+/// Lists in any order, and numbers of one to four bytes from the estimates up to the bound.
 fn accepted(cases: &mut Cases) {
-    cases.counts(
-        "carts",
-        &carts(),
-        &one_seen(),
-        &[(&[1], 0), (&[4], 1), (&[4], 127), (&[4], 128), (&[4, 1], 129), (&[1, 4], 16_384), (&[4, 2, 1], 65_535)],
-    );
-    cases.counts("carts at a given state", &carts(), &given(), &[(&[2], 65_535), (&[4, 1], 65_400), (&[1, 4], 65_535)]);
+    let (d, s) = (carts(), one_seen());
+    let short: [(&[u8], u32); 6] = [(&[1], 0), (&[4], 1), (&[4], 127), (&[4], 128), (&[4, 1], 129), (&[1, 4], 16_384)];
+    let long: [(&[u8], u32); 4] = [(&[4, 2, 1], 65_535), (&[4], 65_536), (&[1, 2], 2_097_152), (&[2, 4, 1], 16_777_215)];
+    cases.counts("carts", &d, &s, &[&short[..], &long].concat());
+    for most in [65_535, 16_777_215] {
+        let asked: [(&[u8], u32); 3] = [(&[2], most), (&[4, 1], most - 135), (&[1, 4], most)];
+        cases.counts(&format!("carts at a state up to {most}"), &d, &given(most), &asked);
+    }
+    // together above 65,535
+    cases.counts("carts at a state up to 65535", &d, &given(65_535), &[(&[1, 2], 130_535), (&[1, 2], 16_777_215)]);
 }
 
 fn refused(cases: &mut Cases) {
     let (d, s) = (carts(), one_seen());
-    cases.counts("carts, no state", &d, &[], &[(&[], 65_536)]);
-    cases.counts("carts, a state cut short", &d, &s[..s.len() - 1], &[(&[], 65_536)]);
-    cases.counts("carts", &d, &s, &[(&[], 3), (&[0], 3), (&[6], 3), (&[255, 1], 3), (&[1, 4, 1], 3), (&[3], 3), (&[1, 5], 65_536)]);
+    cases.counts("carts, no state", &d, &[], &[(&[], 16_777_216)]);
+    cases.counts("carts, a state cut short", &d, &s[..s.len() - 1], &[(&[], 16_777_216)]);
+    cases.counts("carts", &d, &s, &[(&[], 3), (&[0], 3), (&[6], 3), (&[255, 1], 3), (&[1, 4, 1], 3), (&[3], 3)]);
+    cases.counts("carts", &d, &s, &[(&[1, 5], 16_777_216)]);
     cases.count("carts, count at all places 13 times", &d, &s, &[1, 2, 3, 4, 5].repeat(13), 3, [ROOM, ROOM]);
-    cases.counts("carts", &d, &s, &[(&[4], 0), (&[1, 4], 65_536), (&[1], 4_294_967_295)]);
-    cases.counts("carts at a given state", &d, &given(), &[(&[2], 65_534), (&[1, 2], 65_535), (&[1, 2, 4], 0)]);
+    cases.counts("carts", &d, &s, &[(&[4], 0), (&[1, 4], 16_777_216), (&[1], 4_294_967_295)]);
+    for most in [65_535, 16_777_215] {
+        let asked: [(&[u8], u32); 3] = [(&[2], most - 1), (&[1, 2], most), (&[1, 2, 4], 0)];
+        cases.counts(&format!("carts at a state up to {most}"), &d, &given(most), &asked);
+    }
+    // one less than the estimates there, and as many as the estimates there, which add up to more than the bound
+    cases.counts("carts at a state up to 65535", &d, &given(65_535), &[(&[1, 2], 130_534)]);
+    cases.counts("carts at a state up to 16777215", &d, &given(16_777_215), &[(&[1, 2], 33_553_895)]);
 }
 
 /// How much room there is for the description and for the state: three bytes more and one more than before.
@@ -77,6 +88,17 @@ fn groups(cases: &mut Cases) {
         let s = state(&[0, 1], &vec![0; number]);
         cases.counts(&format!("{number} groups"), &d, &s, &[(&[2], 7), (&[2], 0), (&[], 0)]);
         cases.count(&format!("{number} groups, count in nothing"), &d, &s, &[2], 7, [0, 0]);
+    }
+}
+
+/// A head count that leaves the longest state: 387 bytes.
+fn longest(cases: &mut Cases) {
+    let homes: Vec<usize> = (0..64).map(|p| if p < 62 { 1 + p / 2 } else { 0 }).collect();
+    let d = net(&homes, &[(0, 16_777_215); 31], &[&[]], &[]);
+    let s = state(&[2_097_152; 64], &[2_097_152; 31]);
+    assert_eq!(s.len() + 4, 387);
+    for room in [386, 387] {
+        cases.count(&format!("the longest state, count in {room}"), &d, &s, &[64, 63], 16_777_215, [ROOM, room]);
     }
 }
 

@@ -7,6 +7,7 @@ mod answers;
 mod calls;
 mod descriptions;
 mod head_counts;
+mod older;
 mod parts;
 mod random;
 
@@ -28,6 +29,7 @@ enum Call {
     /// How the description is refused with each value of one byte; the event is its position, from 0.
     Changed,
     Count,
+    Older,
 }
 
 /// The list of cases so far, and a line for each.
@@ -51,6 +53,12 @@ impl Cases {
         self.put([label.as_bytes(), d, s, places], numbers, &format!("{label}:{said}"));
     }
 
+    /// The state for older observers.
+    fn older(&mut self, label: &str, d: &[u8], s: &[u8], room: u32) {
+        let said = answers::for_older(d, s, room);
+        self.put([label.as_bytes(), d, s, &[]], [Call::Older as u32, 0, 0, room], &format!("{label}:{said}"));
+    }
+
     fn put(&mut self, parts: [&[u8]; 4], numbers: [u32; 4], line: &str) {
         for part in parts {
             put_number(&mut self.input, part.len() as u32);
@@ -68,6 +76,7 @@ fn main() {
     descriptions::add(&mut cases);
     calls::add(&mut cases);
     head_counts::add(&mut cases);
+    older::add(&mut cases);
     let mut files = std::env::args().skip(1);
     let mut file = || files.next().expect("cases STDIN STDOUT");
     assert!(cases.input.len() <= LONGEST, "{} bytes", cases.input.len());

@@ -63,7 +63,7 @@ impl Parts {
             (0..8).rev().fold(Vec::new(), |inner: Vec<Member>, level| {
                 let mut list = vec![Place(first + 2 * level), Place(first + 2 * level + 1)];
                 list.extend(inner);
-                vec![Group(65_535, list)]
+                vec![Group(16_777_215, list)]
             })
         };
         let terms = (1..=64).map(|p| (p, if p % 2 == 0 { 1_000 } else { -1_000 })).collect();
