@@ -4,6 +4,7 @@ use mathlib.Core.Path.{_≡_, refl, sym, ap, _∙_, subst}
 use mathlib.Core.Bool.{Bool, true, false, _&&_}
 use mathlib.Core.List.{List}
 use mathlib.Core.Logic.{_↔_, _⊎_, Iff·trans}
+use native.Mathlib.Omega.{arith}
 use lib.Dec.{leb}
 use lib.ListN.{length}
 use Rattle.theory.specs.Nets.{Net, Groups, Marking, withGroups, recounted}
@@ -40,7 +41,7 @@ use Rattle.observer.proofs.Described.{good}
 use Rattle.promises.specs.Lists.{withState, onBytes, host, keptDescription, keptState}
 use Rattle.host.proofs.Numbers.{both-refused}
 use Rattle.promises.specs.Promises.{onBytesTold, estimateAfter, ListsOnBytes, Leaves, Recounts, StateOnBytes}
-use Rattle.promises.proofs.Told.{both-iff, bytes-told, in-numbers}
+use Rattle.promises.proofs.Told.{rooms-iff, bytes-told, in-numbers}
 use Rattle.promises.proofs.Described.{of-described, Fine, fine-net, BytesOf, read-back, read-are}
 
 -- recording leaves a state that fits
@@ -103,7 +104,8 @@ unfolding countReply
 counted-is d =
     of-described d (λ net. (b : List ℕ) (s : State) → BytesOf net b s → (list : List ℕ) (n : ℕ) → Counts net s list n (countReply d b list n)) each
   where
-    each : (left : List ℕ) (x : Parts) → parts bound d ≡ ok x left → (b : List ℕ) (s : State) → BytesOf (netIn x) b s → (list : List ℕ) (n : ℕ)
+    each : (left : List ℕ) (x : Parts) → parts bound d ≡ ok x left
+        → (b : List ℕ) (s : State) → BytesOf (netIn x) b s → (list : List ℕ) (n : ℕ)
         → Counts (netIn x) s list n (countReply d b list n)
     each left x e b s bytes list n =
         let net : Net = netIn x in
@@ -202,7 +204,7 @@ module _ (d : List ℕ) (net : Net) (says : described d ≡ value net) (b : List
       → (bothAnswer described room (countReply d b list n) ≡ WroteBoth.Refused 15) ↔ ((bound < n) ⊎ (Countable net (Within net s) list n → ⊥))
   state-miscounted list n described room loose =
       let counts = counted-is d net says b s bytes list n in
-      Iff·trans (both-iff (countReply d b list n) described room)
+      Iff·trans (rooms-iff (countReply d b list n) described room 15 (λ e. omega arith))
       (rw (counts .is) (Iff·trans (then-no (counts .pair) (headCounted net s list n) 15) (miscounted-iff net net-good s state-fits list n loose)))
 
   pub state-on-bytes : StateOnBytes d net b s

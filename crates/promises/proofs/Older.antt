@@ -31,7 +31,7 @@ use Rattle.states.proofs.Wider.{state-wider}
 use Rattle.observer.specs.Bytes.{netIn, describedUpTo, described, stateUpTo, stateIn, olderReply}
 use Rattle.promises.specs.Promises.{Older, AsBefore}
 use Rattle.host.proofs.Numbers.{wrote-refused}
-use Rattle.promises.proofs.Told.{older-iff}
+use Rattle.promises.proofs.Told.{room-iff}
 use Rattle.promises.proofs.Described.{Fine, fine-net, BytesOf, read-are}
 
 -- ---- what they read, this one reads too
@@ -125,7 +125,7 @@ module _ (d : List ℕ) (net : Net) (says : described d ≡ value net) (b : List
 
   too-large : (room : ℕ) → (answer room (olderReply d b) ≡ Refused 17) ↔ Unread
   too-large room =
-      Iff·trans (older-iff (olderReply d b) room)
+      Iff·trans (room-iff (olderReply d b) room 17 (λ e. omega arith))
       (rw older-is (Iff·trans (question-no (numbersUpTo olderBound net s) tooLarge (λ e. clash (cc))) unread))
 
   pub older : Older d net b s

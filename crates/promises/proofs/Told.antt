@@ -55,27 +55,30 @@ observed-iff : (r : Reply Observer) (n : ℕ) → (observedOf r .checked ≡ Che
 observed-iff (value b) n = ((λ e. clash (cc)), (λ e. clash (cc)))
 observed-iff (refusal k) n = ((λ e. cc), (λ e. cc))
 
--- ---- counting
+-- ---- room
 
--- 13 is asked last, so that the room plays no part in 15
-pub both-iff : (r : Reply Pair) (described room : ℕ) → (bothAnswer described room r ≡ WroteBoth.Refused 15) ↔ (r ≡ refusal 15)
-both-iff (refusal k) described room = ((λ e. cc), (λ e. cc))
-both-iff (value pair) described room = (go (leb (length (pair .description)) described && leb (length (pair .state)) room), (λ e. clash (cc)))
-  where
-    go : (t : Bool) → wroteBothOf (question t noRoom >>= λ _. value pair) ≡ WroteBoth.Refused 15 → value pair ≡ refusal 15
-    go true e = clash (cc)
-    go false e = absurd (let z : noRoom ≡ 15 = cc in let y : ⊥ = omega arith in y)
+-- 13 is asked last, so that the room plays no part in another refusal
+asked-last : {A : Type 0} (a : A) (q : Bool) (n : ℕ) → (noRoom ≡ n → ⊥)
+    → ((question q noRoom >>= λ _. value a) ≡ refusal n) ↔ (value a ≡ refusal n)
+asked-last a true n other = ((λ e. e), (λ e. e))
+asked-last a false n other = ((λ e. absurd (other (cc))), (λ e. clash (cc)))
 
--- ---- for older observers
+pub room-iff : (r : Reply (List ℕ)) (room n : ℕ) → (noRoom ≡ n → ⊥) → (answer room r ≡ Wrote.Refused n) ↔ (r ≡ refusal n)
+room-iff (refusal k) room n other = wrote-iff (refusal k) n
+room-iff (value b) room n other =
+    let q = leb (length b) room in
+    Iff·trans (wrote-iff (question q noRoom >>= λ _. value b) n) (asked-last b q n other)
 
--- nor in 17
-pub older-iff : (r : Reply (List ℕ)) (room : ℕ) → (answer room r ≡ Wrote.Refused 17) ↔ (r ≡ refusal 17)
-older-iff (refusal k) room = ((λ e. cc), (λ e. cc))
-older-iff (value b) room = (go (leb (length b) room), (λ e. clash (cc)))
-  where
-    go : (t : Bool) → wroteOf (question t noRoom >>= λ _. value b) ≡ Wrote.Refused 17 → value b ≡ refusal 17
-    go true e = clash (cc)
-    go false e = absurd (let z : noRoom ≡ 17 = cc in let y : ⊥ = omega arith in y)
+wroteBoth-iff : (r : Reply Pair) (n : ℕ) → (wroteBothOf r ≡ WroteBoth.Refused n) ↔ (r ≡ refusal n)
+wroteBoth-iff (value pair) n = ((λ e. clash (cc)), (λ e. clash (cc)))
+wroteBoth-iff (refusal k) n = ((λ e. cc), (λ e. cc))
+
+pub rooms-iff : (r : Reply Pair) (described room n : ℕ) → (noRoom ≡ n → ⊥)
+    → (bothAnswer described room r ≡ WroteBoth.Refused n) ↔ (r ≡ refusal n)
+rooms-iff (refusal k) described room n other = wroteBoth-iff (refusal k) n
+rooms-iff (value pair) described room n other =
+    let q = leb (length (pair .description)) described && leb (length (pair .state)) room in
+    Iff·trans (wroteBoth-iff (question q noRoom >>= λ _. value pair) n) (asked-last pair q n other)
 
 -- ---- in the calls' words
 
