@@ -62,7 +62,8 @@
 extern "C" {
 #endif
 
-/* Writes the fresh state of the net. Answers the number of bytes written, or a refusal: 1 to 8, 13. */
+/* Writes the fresh state of the net. In it the tokens of the groups are unplaced, but where a group has exactly one direct
+ * place, its own share is in the estimate of that place. Answers the number of bytes written, or a refusal: 1 to 8, 13. */
 int64_t fresh(const uint8_t *d, size_t d_length, uint8_t *out, size_t out_length);
 
 /* Writes the state after an event. Recording does not judge: a held event is recorded too.
@@ -74,13 +75,17 @@ int64_t record(const uint8_t *d, size_t d_length, const uint8_t *s, size_t s_len
  * 1 to 12. */
 int64_t judge(const uint8_t *d, size_t d_length, const uint8_t *s, size_t s_length, uint32_t event);
 
-/* Is it known where all tokens are? Answers 1 for yes, 0 for no, or a refusal: 1 to 9. */
+/* Is it known where all tokens are: is nothing unplaced, and no place loose? After any calls from `fresh` that is so exactly
+ * when just one placement of the tokens agrees with the head counts and with the recorded events. A state from elsewhere is
+ * taken as it is, also if tokens are unplaced in a group with one direct place.
+ * Answers 1 for yes, 0 for no, or a refusal: 1 to 9. */
 int64_t known(const uint8_t *d, size_t d_length, const uint8_t *s, size_t s_length);
 
 /* Takes a head count while running: these loose places, one in a byte and in any order, hold n tokens together now. They
- * become a new outermost group, with the next number. Writes the description with that group to `described` and the state
- * to `out`; from then on these two are used, and a copy that was saved before is void. In the new description n is what was
- * counted now, not at the start, so that `fresh` on it is not the state that goes on.
+ * become a new outermost group, with the next number; if it is one place, its estimate becomes n. Writes the description
+ * with that group to `described` and the state to `out`; from then on these two are used, and a copy that was saved before
+ * is void. In the new description n is what was counted now, not at the start, so that `fresh` on it is not the state that
+ * goes on.
  * Answers the bytes of the description times 2^32, plus the bytes of the state; or a refusal: 1 to 9, 13 to 16. If one output
  * is too short (13), neither is written. */
 int64_t count(const uint8_t *d, size_t d_length, const uint8_t *s, size_t s_length,

@@ -1,5 +1,6 @@
-/* What include/yarrowbeam.h promises beside the answers: the order of refusals, null pointers, writing in place, threads and
- * the stack. Prints what breaks a promise. WITHOUT_STACK is for builds that are watched, since watching takes stack too. */
+/* What include/yarrowbeam.h promises beside the answers: the order of refusals, null pointers, groups with one place, writing in
+ * place, threads and the stack. Prints what breaks a promise. WITHOUT_STACK is for builds that are watched, since watching takes
+ * stack too. */
 #define _XOPEN_SOURCE 700
 #include <inttypes.h>
 #include <limits.h>
@@ -221,6 +222,42 @@ static void null_pointers_of_count(void) {
     expect("count, the state", memcmp(out, after, 7), 0);
 }
 
+/* ---- groups with one direct place: fresh and count have the tokens there, and a state is taken as it is */
+
+static void one_worker_at_one_place(void) {
+    static const uint8_t d[] = {1, 1, 1, 0, 1, 1, 1, 1, 0, 1, 0}, there[] = {1, 1, 1, 1, 0}, unplaced[] = {1, 1, 0, 1, 1};
+    uint8_t s[ROOM];
+    ANSWERS(fresh(d, sizeof d, s, ROOM), 5);
+    expect("one worker, the fresh state", memcmp(s, there, 5), 0);
+    ANSWERS(known(d, sizeof d, s, 5), 1);
+    ANSWERS(known(d, sizeof d, unplaced, 5), 0);
+}
+
+/* A group of 5 with place 1 and a group of 4 inside, which has place 2; place 3 is loose, and is counted. */
+static void count_of_one_place(void) {
+    static const uint8_t d[] = {1, 3, 1, 0, 2, 0, 3, 1, 5, 2, 0, 1, 1, 4, 1, 0, 2, 0};
+    static const uint8_t with_group[] = {1, 3, 1, 0, 2, 1, 5, 2, 0, 1, 1, 4, 1, 0, 2, 1, 6, 1, 0, 3, 0}, place = 3;
+    /* the fresh state and one with 1 unplaced in the outer group, each before the count and after it, and whether that is known */
+    static const struct {
+        uint8_t before[8], after[9];
+        int64_t known;
+    } states[] = {
+        {{1, 3, 1, 4, 0, 2, 0, 0}, {1, 3, 1, 4, 6, 3, 0, 0, 0}, 1},
+        {{1, 3, 0, 4, 0, 2, 1, 0}, {1, 3, 0, 4, 6, 3, 1, 0, 0}, 0},
+    };
+    uint8_t s[ROOM], described[sizeof with_group];
+    ANSWERS(fresh(d, sizeof d, s, ROOM), 8);
+    expect("a group inside, the fresh state", memcmp(s, states[0].before, 8), 0);
+    for (int i = 0; i < 2; i++) {
+        ANSWERS(known(d, sizeof d, states[i].before, 8), 0);
+        expect("count of one place", count(d, sizeof d, states[i].before, 8, &place, 1, 6, described, sizeof described, s, ROOM),
+               wrote(sizeof described, 9));
+        expect("count of one place, the description", memcmp(described, with_group, sizeof with_group), 0);
+        expect("count of one place, the state", memcmp(s, states[i].after, 9), 0);
+        ANSWERS(known(described, sizeof described, s, 9), states[i].known);
+    }
+}
+
 /* ---- recording, counting and writing for older observers in place */
 
 /* Records an event from s, of this length, to other bytes and to s itself, with this room: the same answer and the same bytes. */
@@ -359,12 +396,14 @@ static int64_t call_record(void) {
 }
 static int64_t call_judge(void) { return judge(stack_net->d, stack_net->length, stack_state, stack_length, 2); }
 static int64_t call_known(void) { return known(stack_net->d, stack_net->length, stack_state, stack_length); }
-static int64_t call_count(void) {
+static int64_t count_places(size_t number) {
     static const uint8_t places[] = {8, 7, 6, 5, 4, 3, 2, 1};
     static uint8_t described[LONGEST];
-    return count(stack_net->d, stack_net->length, stack_state, stack_length, places, 8, 16777215, described, LONGEST,
+    return count(stack_net->d, stack_net->length, stack_state, stack_length, places, number, 16777215, described, LONGEST,
                  stack_out, ROOM);
 }
+static int64_t call_count(void) { return count_places(8); }
+static int64_t call_count_of_one(void) { return count_places(1); }
 static int64_t call_older(void) {
     return older(stack_net->d, stack_net->length, stack_state, stack_length, stack_out, ROOM);
 }
@@ -409,6 +448,7 @@ static void stacks(const Net *net, int64_t refusal_of_count) {
     stack_of("judge", call_judge, 0);
     stack_of("known", call_known, 0);
     stack_of("count", call_count, refusal_of_count);
+    stack_of("count of one place", call_count_of_one, refusal_of_count);
     stack_of("older", call_older, 0);
 }
 
@@ -428,6 +468,8 @@ int main(void) {
     order_of_older();
     null_pointers();
     null_pointers_of_count();
+    one_worker_at_one_place();
+    count_of_one_place();
     for (int i = 0; i < 3; i++) {
         uint8_t s[ROOM];
         expect("the net is good", fresh(nets[i].d, nets[i].length, s, ROOM) > 0, 1);

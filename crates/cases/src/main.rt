@@ -33,7 +33,7 @@ const OLDER: u32 = 8;
 
 fn main() {
     // more than the list of cases has
-    let mut space = [0u8; 131072];
+    let mut space = [0u8; 262144];
     let count = io::read_full(STDIN_FILENO, &mut space);
     cases(input::first(&space, count));
 }

@@ -3,6 +3,7 @@ pub mod Reader
 pub mod Inverse
 pub mod Places
 pub mod Joined
+pub mod Filling
 pub mod Walk
 pub mod Measured
 pub mod Both

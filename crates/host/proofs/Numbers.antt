@@ -11,7 +11,9 @@ use Rattle.codec.specs.declared.WroteBoth.the-variants as WroteBoth
 use Rattle.net.specs.declared.Verdict.the-variants.{Allow, Hold}
 use Rattle.net.specs.declared.Answer.{Answer}
 use Rattle.net.specs.declared.Answer.the-variants.{Given, Refused}
-use Rattle.host.specs.Numbers.{refusalNumber, wroteNumber, wroteBothNumber, answerNumber}
+use Rattle.net.specs.declared.Known.{Known}
+use Rattle.net.specs.declared.Known.the-variants as Known
+use Rattle.host.specs.Numbers.{refusalNumber, wroteNumber, wroteBothNumber, answerNumber, knownNumber}
 
 -- a refusal
 refusal-back : (k n : ℕ) → refusalNumber k ≡ refusalNumber (suc n) → k ≡ suc n
@@ -46,3 +48,10 @@ judge-allowed (Given (Hold zero)) no-refusal no-hold = ((λ e. absurd (no-hold 0
 judge-allowed (Given (Hold (suc l))) no-refusal no-hold = ((λ e. clash (cc)), (λ e. clash (cc)))
 judge-allowed (Refused zero) no-refusal no-hold = ((λ e. absurd (no-refusal 0 refl refl)), (λ e. clash (cc)))
 judge-allowed (Refused (suc n)) no-refusal no-hold = ((λ e. clash (cc)), (λ e. clash (cc)))
+
+-- "known"
+pub known-yes : (k : Known) → (knownNumber k ≡ pos 1) ↔ (k ≡ Known.Yes)
+known-yes Known.Yes = ((λ e. refl), (λ e. refl))
+known-yes Known.No = ((λ e. clash (cc)), (λ e. clash (cc)))
+known-yes (Known.Refused zero) = ((λ e. clash (cc)), (λ e. clash (cc)))
+known-yes (Known.Refused (suc n)) = ((λ e. clash (cc)), (λ e. clash (cc)))

@@ -7,7 +7,7 @@ use native.Mathlib.Omega.{arith}
 use borrow.Author.Tests.{lt-ltb}
 use lib.ListN.{length, getD}
 use Rattle.theory.specs.Nets.{share, less}
-use Rattle.theory.specs.Recording.{State, Alike, bound, fresh, next, unplaced}
+use Rattle.theory.specs.Recording.{State, Alike, bound, settled, nonePlaced, fresh, next, unplaced}
 use Rattle.theory.specs.Replies.{value, refusal}
 use Rattle.theory.specs.Answers.{ask, recorded, judged}
 use Rattle.theory.proofs.Alike.{unplaced-alike}
@@ -60,7 +60,7 @@ module _ (net : Net) (good : netCheck net ≡ value tt) {observed : Observed} (e
 
   pub fresh-running : length (observed .observer .estimates) ≡ mostPlaces → length (observed .observer .remainders) ≡ mostGroups
       → Running net (observed .observer .estimates) (observed .observer .remainders)
-  unfolding fresh share less
+  unfolding fresh settled nonePlaced share less
   fresh-running long wide =
       record {
         good = good;
@@ -74,7 +74,7 @@ module _ (net : Net) (good : netCheck net ≡ value tt) {observed : Observed} (e
 
   pub fresh-lines : (bytes : List ℕ)
       → lines (netOf net) (fresh (netOf net)) bytes ≡ lines (netOf net) (stateIn (observed .observer .estimates) (observed .observer .remainders)) bytes
-  unfolding fresh
+  unfolding fresh settled nonePlaced
   fresh-lines bytes = sym (lines-alike (netOf net) (record { estimates = estimates-are; lows = λ i l. at i ∙ remainders-are i l; highs = λ i l. at i ∙ remainders-are i l }) bytes)
     where
       at : (i : ℕ) → getD (observed .observer .remainders) (suc i - 1) 0 ≡ getD (observed .observer .remainders) i 0

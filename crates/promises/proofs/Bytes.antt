@@ -9,7 +9,7 @@ use lib.Dec.{leb}
 use lib.ListN.{length}
 use Rattle.theory.specs.Nets.{Net, Groups, Marking, withGroups, recounted}
 use Rattle.theory.specs.Firing.{Same, Consistent, Countable}
-use Rattle.theory.specs.Recording.{State, Alike, Within, bound, next, afterCount, known, published}
+use Rattle.theory.specs.Recording.{State, Alike, Within, bound, next, afterCount, known}
 use Rattle.theory.proofs.Recording.{next-iff}
 use Rattle.theory.specs.Replies.{Reply, value, refusal, _>>=_, question}
 use Rattle.theory.specs.Answers.{recorded, judged, looseSet, headCounted, noRoom}
@@ -19,9 +19,9 @@ use Rattle.theory.proofs.Counting.{loose-set, count-yes, within-count, countabl
 use Rattle.theory.proofs.Known.{known-only}
 use Rattle.theory.proofs.Exact.{retold}
 use Rattle.theory.proofs.Exact as Exact
-use Rattle.theory.proofs.Faithful.{alike-demand-2, known-consistent}
+use Rattle.theory.proofs.Faithful.{alike-demand-2, alike-least, alike-known}
 use Rattle.theory.specs.Calls.{Call}
-use Rattle.theory.specs.Demands.{Demand2, Demand3}
+use Rattle.theory.specs.Demands.{Demand2, Least, JustOne, Demand3}
 use Rattle.theory.proofs.Lists.{Tied, neither, full, Ties, Kept, kept-standing, tied-told, safe-standing}
 use Rattle.theory.proofs.Lists as Lists
 use Rattle.theory.proofs.Fitting.{Good, Fitting}
@@ -41,7 +41,7 @@ use Rattle.observer.proofs.Described.{good}
 use Rattle.promises.specs.Lists.{withState, onBytes, host, keptDescription, keptState}
 use Rattle.host.proofs.Numbers.{both-refused}
 use Rattle.promises.specs.Promises.{onBytesTold, estimateAfter, ListsOnBytes, Leaves, Recounts, StateOnBytes}
-use Rattle.promises.proofs.Told.{rooms-iff, bytes-told, in-numbers}
+use Rattle.promises.proofs.Told.{report-iff, known-told, rooms-iff, bytes-told, in-numbers}
 use Rattle.promises.proofs.Described.{of-described, Fine, fine-net, BytesOf, read-back, read-are}
 
 -- recording leaves a state that fits
@@ -116,7 +116,7 @@ counted-is d =
           pair = λ t. both description (saved later t);
           is =
               rw (e, back .1)
-              (sym (counted-alike net (back .2) list n (λ t. both description (saved later t)) (λ t u a. ap (both description) (saved-alike later a))));
+              (sym (counted-alike net (back .2) (good d left x e .homes) list n (λ t. both description (saved later t)) (λ t u a. ap (both description) (saved-alike later a))));
           leaves = λ t u.
               let found = count-yes net s list n t u in
               let count = found .0 in
@@ -197,7 +197,7 @@ module _ (d : List ℕ) (net : Net) (says : described d ≡ value net) (b : List
         state = back .0;
         state-after = back .1;
         counted = alike;
-        consistent = λ m. Iff·trans (within-iff later alike m) (within-count net net-good s list n (found .0 .set) (found .0 .enough) m);
+        consistent = λ m. Iff·trans (within-iff later alike m) (within-count net net-good s list n (found .0 .set) state-fits (found .0 .enough) m);
       }
 
   state-miscounted : (list : List ℕ) (n described room : ℕ) → looseSet net list ≡ true
@@ -283,18 +283,29 @@ module _ (d : List ℕ) (net : Net) (says : described d ≡ value net) where
         (judgeReply (keptDescription d list) (keptState d list) (suc number)))
         (Lists.demand-3 (begun .good) ties (host d list) kept room number l)
 
-    list-known : knownReply (keptDescription d list) (keptState d list) ≡ value true
-        → (m : Marking) → Consistent net (host d list .deeds) m ↔ Same net (published net (host d list .deeds) .estimate) m
-    list-known u m =
-        let only = state-known (keptDescription d list) now (kept .tied .net-is) (keptState d list) (found .0) (found .1) u m in
-        known-consistent net (kept .groups) (kept .state) (host d list .deeds) (kept .faithful) (found .0) (alike-sym now (found .2)) m only
+    list-least : (later : Net) (s : State) → described (keptDescription d list) ≡ value later → stateIn later (keptState d list) ≡ value s
+        → (p : ℕ) → p < net .places → Least (Consistent net (host d list .deeds)) p (s .estimate p)
+    list-least later s says reads p l =
+        let same : now ≡ later = (let z : value now ≡ value later = sym (kept .tied .net-is) ∙ says in cc) in
+        let here : stateIn now (keptState d list) ≡ value s = subst (λ (z : Net). stateIn z (keptState d list) ≡ value s) (sym same) reads in
+        let is : found .0 ≡ s = (let z : value (found .0) ≡ value s = sym (found .1) ∙ here in cc) in
+        subst (λ (z : State). Least (Consistent net (host d list .deeds)) p (z .estimate p)) is
+        (alike-least net (kept .groups) (kept .state) (host d list .deeds) (kept .faithful) (found .0) (alike-sym now (found .2)) p l)
+
+    list-known : (knownReply (keptDescription d list) (keptState d list) ≡ value true) ↔ JustOne net (Consistent net (host d list .deeds))
+    unfolding knownReply
+    list-known =
+        rw (kept .tied .net-is, found .1) (report-iff (known now (found .0))
+        (alike-known net (kept .groups) (kept .state) (host d list .deeds) (kept .faithful) (found .0) (alike-sym now (found .2))))
 
     pub list-on-bytes : ListsOnBytes d net list
     list-on-bytes =
         record {
           demand-2 = list-demand-2;
+          least = list-least;
           demand-3 = list-demand-3;
           demand-3-host = λ room number l. in-numbers (list-demand-3 room number l);
           known = list-known;
+          known-host = Iff·trans (known-told (knownReply (keptDescription d list) (keptState d list))) list-known;
           stays = safe-standing (begun .good) ties list;
         }

@@ -6,7 +6,8 @@ use lib.IntN.{negsuc}
 use Rattle.theory.specs.Sums.{sum, sumℤ, every, direct}
 use Rattle.theory.specs.Nets.{inside, among, own, inner, gathered, less, share, names, listedSum, grouped}
 use Rattle.theory.specs.Placement.{heaviestPlace}
-use Rattle.theory.specs.Recording.{fresh, raise, raises, moved, possible, next, afterCount, inRange, unplaced, known}
+use Rattle.theory.specs.Recording.{onePlace, certain, settled, nonePlaced, fresh, raise, raises, moved, possible, next, withNewest, afterCount}
+use Rattle.theory.specs.Recording.{inRange, unplaced, known}
 use Rattle.theory.specs.Judging.{limitSum, change, heaviest, amount, top, holds}
 use Rattle.theory.specs.Replies.{Reply, value, refusal}
 use Rattle.theory.specs.Answers.{ask, Verdict, allow, hold, lowest, recorded, judged, eachLoose, headCounted}
@@ -78,8 +79,8 @@ unfolding cases poolBytes form groups stored number Stored.number Stored.front S
     freshReply recordReply judgeReply knownReply standing standingFrom begin call
     place innerGroups members memberList group outermost entries row risingPlace filled arc event signedWithin term limit head limitsToEnd parts
     shared shareFits hasPlace States.value countedValues saved stateFrom state valuesBytes stateBytes joined
-    ask recorded judged lowest holds fresh share less inner possible raises raise own direct sum every next moved inRange change sumℤ heaviest heaviestPlace
-    top limitSum amount known unplaced gathered among inside
+    ask recorded judged lowest holds fresh nonePlaced settled certain onePlace share less inner possible raises raise own direct sum every next moved inRange
+    change sumℤ heaviest heaviestPlace top limitSum amount known unplaced gathered among inside
 cases-hold = refl
 
 -- ---- a head count
@@ -105,7 +106,7 @@ unfolding looseBytes countedPair form groups number Stored.number Stored.front S
     freshReply recordReply countReply standing standingFrom begin call
     place innerGroups members memberList group outermost entries row risingPlace filled arc event head limitsToEnd parts
     shared shareFits hasPlace States.value countedValues saved stateFrom state valuesBytes stateBytes joined
-    ask recorded fresh share less inner possible raises raise own direct sum every next moved inRange gathered among inside
-    headCounted eachLoose names listedSum afterCount grouped rehomed
+    ask recorded fresh nonePlaced settled certain onePlace share less inner possible raises raise own direct sum every next moved inRange
+    gathered among inside headCounted eachLoose names listedSum withNewest afterCount grouped rehomed
     table netFrom netBytes memberBytes headBytes groupBytes placeBytes listLength rowBytes eventBytes
 count-holds = refl

@@ -4,8 +4,8 @@ use mathlib.Core.Path.{_≡_, refl, sym, ap, _∙_, subst}
 use mathlib.Core.List.{List}
 use native.Mathlib.Omega.{arith}
 use Rattle.theory.specs.Nets as Theory
-use Rattle.theory.specs.Nets.{SameNet}
-use Rattle.theory.specs.Recording.{State, bound, fresh, known, unplaced}
+use Rattle.theory.specs.Nets.{SameNet, own}
+use Rattle.theory.specs.Recording.{State, bound, onePlace, certain, settled, nonePlaced, fresh, known, unplaced}
 use Rattle.theory.specs.Replies.{Reply, value, refusal, _>>=_}
 use Rattle.theory.specs.Answers.{recorded, judged}
 use Rattle.theory.proofs.Answers.{clash}
@@ -79,7 +79,7 @@ module _ (d left : List ℕ) (x : Parts) (e : parts bound d ≡ ok x left) where
   same = same-net d left x e
 
   fresh-one : value (saved (netIn x) (fresh (netIn x))) ≡ (freshObserver net >>= observerOutput net)
-  unfolding netFrom fresh
+  unfolding netFrom fresh nonePlaced settled certain onePlace own
   fresh-one = sym (fresh-output net checked)
 
   recorded-one : (b : List ℕ) (number : ℕ)

@@ -9,6 +9,7 @@ use lib.ListN.{length, drop}
 use Rattle.theory.specs.Replies.{Reply, value, refusal, _>>=_, question}
 use Rattle.theory.specs.Answers.{noRoom}
 use Rattle.theory.proofs.Answers.{clash}
+use Rattle.theory.proofs.Least.{least-determined}
 use Rattle.theory.proofs.Exact.{judged-determined, impossible-determined, overRange-determined, groups-determined, estimates-determined, unplaced-determined}
 use Rattle.theory.proofs.Faithful.{possible-starts}
 use Rattle.theory.proofs.Sums.{and-left, and-right}
@@ -99,6 +100,7 @@ determined =
       groups = λ net now later deeds s t. groups-determined;
       estimates = λ net now later deeds s t. estimates-determined;
       unplaced = λ net now later deeds s t. unplaced-determined;
+      least = least-determined;
     }
 
 pub promises : Promises

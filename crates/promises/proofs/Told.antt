@@ -1,11 +1,12 @@
 -- The answers that demand 3 speaks of are told in the calls' own words exactly when they are the replies.
 use Prim.Native.Nat.{ℕ, suc}
-use mathlib.Core.Path.{_≡_}
+use mathlib.Core.Path.{_≡_, refl, ap}
 use mathlib.Core.Bool.{Bool, true, false, _&&_}
 use mathlib.Core.List.{List}
 use mathlib.Core.Logic.{_↔_, Iff·symm, Iff·trans}
 use native.Mathlib.Omega.{arith}
 use lib.Dec.{leb}
+use lib.IntN.{pos}
 use lib.ListN.{length}
 use Rattle.theory.specs.Replies.{Reply, value, refusal, _>>=_, question}
 use Rattle.theory.specs.Answers.{Verdict, allow, hold, noRoom}
@@ -23,10 +24,11 @@ use Rattle.net.specs.declared.Checked.the-variants as Checked
 use Rattle.net.specs.declared.Verdict.the-variants.{Allow, Hold}
 use Rattle.net.specs.declared.Answer.{Answer}
 use Rattle.net.specs.declared.Answer.the-variants.{Given, Refused}
-use Rattle.net.specs.Answers.{answerOf}
+use Rattle.net.specs.declared.Known.the-variants.{Yes}
+use Rattle.net.specs.Answers.{answerOf, knownOf}
 use Rattle.net.specs.Observers.{observedOf}
-use Rattle.host.specs.Numbers.{wroteNumber, answerNumber}
-use Rattle.host.proofs.Numbers.{wrote-refused, judge-refused, judge-held, judge-allowed}
+use Rattle.host.specs.Numbers.{wroteNumber, answerNumber, knownNumber}
+use Rattle.host.proofs.Numbers.{wrote-refused, judge-refused, judge-held, judge-allowed, known-yes}
 use Rattle.promises.specs.Promises.{onBytesTold, onValuesTold, hostTold}
 
 -- ---- judging
@@ -44,6 +46,20 @@ allowed-iff : (j : Reply Verdict) → (answerOf j ≡ Given Allow) ↔ (j ≡ va
 allowed-iff (value allow) = ((λ e. cc), (λ e. cc))
 allowed-iff (value (hold k)) = ((λ e. clash (cc)), (λ e. clash (cc)))
 allowed-iff (refusal k) = ((λ e. clash (cc)), (λ e. clash (cc)))
+
+-- ---- known
+
+-- a report is told by its value
+pub report-iff : (b : Bool) {P : Type 0} → (b ≡ true) ↔ P → (value b ≡ value true) ↔ P
+report-iff b told = ((λ e. told .0 (cc)), (λ p. ap value (told .1 p)))
+
+pub known-told : (r : Reply Bool) → (knownNumber (knownOf r) ≡ pos 1) ↔ (r ≡ value true)
+known-told r = Iff·trans (known-yes (knownOf r)) (go r)
+  where
+    go : (r : Reply Bool) → (knownOf r ≡ Yes) ↔ (r ≡ value true)
+    go (value true) = ((λ e. refl), (λ e. refl))
+    go (value false) = ((λ e. clash (cc)), (λ e. clash (cc)))
+    go (refusal n) = ((λ e. clash (cc)), (λ e. clash (cc)))
 
 -- ---- recording
 

@@ -8,7 +8,7 @@ use native.Mathlib.Omega.{arith}
 use lib.ListN.{length}
 use Rattle.theory.specs.Nets as Theory
 use Rattle.theory.specs.Nets.{Marking}
-use Rattle.theory.specs.Firing.{Same}
+use Rattle.theory.specs.Firing.{Same, Consistent}
 use Rattle.theory.specs.Recording.{State, Alike, Within, bound, fresh, next, known}
 use Rattle.theory.proofs.Recording.{next-iff}
 use Rattle.theory.specs.Replies.{Reply, value, refusal, _>>=_}
@@ -18,9 +18,9 @@ use Rattle.theory.proofs.Alike.{judge-alike, recorded-alike, within-iff}
 use Rattle.theory.proofs.Known.{known-only}
 use Rattle.theory.proofs.Exact.{retold}
 use Rattle.theory.proofs.Exact as Exact
-use Rattle.theory.proofs.Faithful.{Faithful, alike-demand-2, known-consistent}
+use Rattle.theory.proofs.Faithful.{Faithful, alike-demand-2, alike-least, alike-known}
 use Rattle.theory.specs.Calls.{Call}
-use Rattle.theory.specs.Demands.{Demand3}
+use Rattle.theory.specs.Demands.{JustOne, Demand3}
 use Rattle.theory.proofs.Lists.{Tied, both, neither, Ties, Kept, kept-standing, tied-told, safe-standing}
 use Rattle.theory.proofs.Lists as Lists
 use Rattle.codec.proofs.Joined.{length-listed}
@@ -39,7 +39,7 @@ use Rattle.values.specs.Values.{bothCheck, restoredObserver, observerOutput, re
 use Rattle.values.proofs.Observers.{before, both-good, both-passed, output-is, same-observer, state-observer, state-fits, write-read}
 use Rattle.promises.specs.Lists.{bytesOf, onValues, memory}
 use Rattle.promises.specs.Promises.{onValuesTold, ListsOnValues, Leaves, StateOnValues}
-use Rattle.promises.proofs.Told.{values-told}
+use Rattle.promises.proofs.Told.{report-iff, values-told}
 use Rattle.promises.proofs.Bytes.{recorded-fit}
 
 -- an observer of a state that fits; no call on values changes the groups
@@ -179,15 +179,20 @@ module _ (net : Net) (checked : netCheck net ≡ value tt) where
     fits : bothCheck net (memory net list .state) ≡ value tt
     fits = rw (kept .tied .is) (both-good net checked (kept .state) (kept .tied .fit))
 
+    list-known : (observerKnown net (memory net list .state) ≡ value true) ↔ JustOne (netOf net) (Consistent (netOf net) (memory net list .deeds))
+    unfolding observerKnown
+    list-known =
+        rw fits (report-iff (known (netOf net) (stateOf (memory net list .state)))
+        (alike-known (netOf net) (groupsOf (net .groups)) (kept .state) (memory net list .deeds) faithful (stateOf (memory net list .state)) alike))
+
     pub list-on-values : ListsOnValues net list
     list-on-values =
         record {
           demand-2 = alike-demand-2 (netOf net) (groupsOf (net .groups)) (kept .state) (memory net list .deeds) faithful (stateOf (memory net list .state)) alike;
+          least = alike-least (netOf net) (groupsOf (net .groups)) (kept .state) (memory net list .deeds) faithful (stateOf (memory net list .state)) alike;
           demand-3 = λ e l.
               retold (values-told (recordedObserver net (memory net list .state) (suc e)) (observerJudged net (memory net list .state) (suc e)))
               (Lists.demand-3 (good-net net checked) ties (memory net list) kept 0 e l);
-          known = λ u m.
-              known-consistent (netOf net) (groupsOf (net .groups)) (kept .state) (memory net list .deeds) faithful
-              (stateOf (memory net list .state)) alike m (state-known net (memory net list .state) fits u m);
+          known = list-known;
           stays = safe-standing (good-net net checked) ties list;
         }

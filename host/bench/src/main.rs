@@ -75,7 +75,7 @@ fn answers(observer: &Observer, asked: &Asked) -> ([i64; 6], [[u8; ROOM]; 4], Ve
 }
 
 /// What the inputs met: each refusal of recording, of counting and of writing for older observers by its number, or 0 for bytes
-/// written; allowances, holds and yeses.
+/// written; allowances, holds and yeses; fresh states with tokens at a place, and head counts of one place that were written.
 #[derive(Default)]
 struct Met {
     recorded: [u32; 14],
@@ -84,6 +84,8 @@ struct Met {
     allowed: u32,
     held: u32,
     known: u32,
+    settled: u32,
+    counted_one: u32,
 }
 
 /// Asserts that all observers answer and write the same.
@@ -98,13 +100,17 @@ fn compare(asked: &Asked, met: &mut Met) {
             observer.name
         );
     }
-    let [_, recorded, judged, known, counted, older] = first.0;
+    let [fresh, recorded, judged, known, counted, older] = first.0;
     met.recorded[usize::try_from(-recorded).unwrap_or(0)] += 1;
     met.counted[usize::try_from(-counted).unwrap_or(0)] += 1;
     met.older[usize::try_from(-older).unwrap_or(0)] += 1;
     met.allowed += u32::from(judged == 0);
     met.held += u32::from(judged > 0);
     met.known += u32::from(known == 1);
+    // after the edition and P stand the estimates, a byte each for as long as they are 0
+    let begun = &first.1[0];
+    met.settled += u32::from(fresh > 0 && begun[2..].iter().take(begun[1].into()).any(|&byte| byte != 0));
+    met.counted_one += u32::from(counted > 0 && asked.places.len() == 1);
 }
 
 /// The bytes with some faults.
@@ -169,6 +175,7 @@ fn alike<'a>(cases: impl Iterator<Item = &'a Case>) {
     };
     println!("All three observers answered and wrote alike on {} inputs.", met.recorded.iter().sum::<u32>());
     println!("Judging allowed {} and held {}, and {} states were known.", met.allowed, met.held, met.known);
+    println!("Fresh had tokens at a place in {}, and {} head counts were of one place.", met.settled, met.counted_one);
     println!("Recording wrote for {}; its refusals, and how often: {}.", met.recorded[0], refusals(&met.recorded));
     println!("Counting wrote for {}; its refusals, and how often: {}.", met.counted[0], refusals(&met.counted));
     println!("Older observers got {} states; the refusals, and how often: {}.\n", met.older[0], refusals(&met.older));

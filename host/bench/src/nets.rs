@@ -111,6 +111,15 @@ const ONE_BYTE: Shape = Shape {
     ..LARGEST
 };
 
+const ONE_PLACE: Shape = Shape {
+    name: "one-place groups: 32 places, 16 events, 32 groups at depth 8, 4 limits",
+    places: 32,
+    chains: 4,
+    depth: 8,
+    count: 180,
+    ..MIDDLE
+};
+
 fn net(shape: &Shape) -> Net {
     let mut numbers = Numbers(0x9E37_79B9_7F4A_7C15);
     let groups = shape.chains * shape.depth;
@@ -247,7 +256,7 @@ pub fn growing() -> Vec<Case> {
 pub fn all() -> Vec<Case> {
     let (d, s) = (POOL.to_vec(), state(&POOL, &[1, 1]));
     let mut all = vec![Case { name: "the pool of three", d, s, event: 2, places: Vec::new(), tokens: 0 }];
-    all.extend([&MIDDLE, &LARGEST, &ONE_BYTE].map(case));
+    all.extend([&MIDDLE, &LARGEST, &ONE_BYTE, &ONE_PLACE].map(case));
     assert_eq!(all[2].d.len() + 32, LONGEST, "only its counts are not at their longest, so that older observers read its state");
     for case in &all {
         assert_eq!(plain::judge(&case.d, &case.s, case.event), 0, "{}: every limit is weighed", case.name);

@@ -1,7 +1,7 @@
 //! One case: every call through the library beside the reference.
 
-use crate::kinds::{after_count, count_edges_after, count_edges_of, count_head_count, count_older, count_sizes};
-use crate::kinds::{Kind, Of, Room, SHORT};
+use crate::kinds::{count_after, count_edges_of, count_fresh, count_head_count, count_older, count_sizes};
+use crate::kinds::{of, whens, Kind, Of, Room, AFTER_COUNT, AFTER_ONE, SHORT};
 use crate::older;
 use reference::{read_description, read_state, write_description, write_state, Net, State};
 use seeded::hex;
@@ -17,8 +17,9 @@ pub struct Case {
     /// The places of a head count, and how many tokens they hold.
     pub places: Vec<u8>,
     pub tokens: u32,
-    /// Was a head count accepted before?
+    /// Was a head count accepted before? And was the call that was accepted last one of one place?
     pub counted: bool,
+    pub counted_one: bool,
 }
 
 /// What a call answers.
@@ -79,16 +80,18 @@ fn expected(case: &Case, met: &mut Met<Of>) -> Expected {
         Err(refusal) => return refused(refusal),
     };
     count_sizes(&net, met);
-    met.count(Of("description", Kind::Size(case.description.len(), "bytes")));
-    let fresh = Ok([write_state(&reference::fresh(&net))]);
+    met.count(of("description", Kind::Size(case.description.len(), "bytes")));
+    let fresh = reference::fresh(&net);
+    count_fresh(&net, &fresh, met);
+    let fresh = Ok([write_state(&fresh)]);
     let state = match read_state(&net, &case.state) {
         Ok(state) => state,
         Err(refusal) => return Expected { fresh, ..refused(refusal) },
     };
-    met.count(Of("state", Kind::Size(case.state.len(), "bytes")));
+    met.count(of("state", Kind::Size(case.state.len(), "bytes")));
     count_head_count(&net, &state, &case.places, case.tokens, met);
     count_older(&net, &state, met);
-    count_edges_after(&net, &state, case.event, met);
+    count_after(&net, &state, case.event, met);
     Expected {
         fresh,
         record: reference::record(&net, &state, case.event).map(|after| [write_state(&after)]),
@@ -145,7 +148,9 @@ pub fn compare(case: &Case, numbers: &mut Numbers, met: &mut Met<Of>) -> Result<
     let expected = expected(case, met);
     let inputs = [&case.description, &case.state, &case.places].map(|bytes| Lent::new(bytes, numbers));
     let [d, s, places] = inputs.each_ref().map(Lent::bytes);
-    let mut calls = Calls { inputs: &inputs, counted: case.counted, numbers, met };
+    let mut whens = expected.read.as_ref().map_or_else(Vec::new, |(net, state)| whens(net, state));
+    whens.extend([(AFTER_COUNT, case.counted), (AFTER_ONE, case.counted_one)].iter().filter(|when| when.1).map(|when| when.0));
+    let mut calls = Calls { inputs: &inputs, whens, numbers, met };
     let both = [("count's description", LARGEST_DESCRIPTION), ("count's state", LARGEST_STATE)];
     calls.writes("fresh", [("fresh", LARGEST_STATE)], expected.fresh, |[out]| {
         yarrowbeam::fresh(d, out).map(|length| [length])
@@ -166,7 +171,8 @@ pub fn compare(case: &Case, numbers: &mut Numbers, met: &mut Met<Of>) -> Result<
 
 struct Calls<'a> {
     inputs: &'a [Lent; 3],
-    counted: bool,
+    /// When the calls are made, for what is counted once more then.
+    whens: Vec<&'static str>,
     numbers: &'a mut Numbers,
     met: &'a mut Met<Of>,
 }
@@ -180,10 +186,9 @@ impl Calls<'_> {
         if !self.inputs.iter().all(|input| input.has(&[])) {
             return Err(format!("{call} changed its inputs"));
         }
-        self.met.count(Of(call, expected.kind()));
-        if self.counted {
-            self.met.count(Of(after_count(call), expected.kind()));
-        }
+        let kind = of(call, expected.kind());
+        self.met.count(kind);
+        self.whens.iter().for_each(|when| self.met.count(kind.when(when)));
         Ok(())
     }
 
@@ -213,15 +218,15 @@ impl Calls<'_> {
         let short: [bool; N] = std::array::from_fn(|i| rooms[i] < lengths[i]);
         if expected.is_ok() {
             for i in 0..N {
-                self.met.count(Of(outputs[i].0, Kind::Room(Room::of(rooms[i], lengths[i]))));
-                self.met.count(Of(outputs[i].0, Kind::Size(lengths[i], "bytes")));
+                self.met.count(of(outputs[i].0, Kind::Room(Room::of(rooms[i], lengths[i]))));
+                self.met.count(of(outputs[i].0, Kind::Size(lengths[i], "bytes")));
             }
             for (name, _) in SHORT.iter().filter(|(_, which)| short[..] == which[..]) {
-                self.met.count(Of(call, Kind::With(name)));
+                self.met.count(of(call, Kind::With(name)));
             }
         }
         if let (Err(refusal), true) = (&expected, rooms == [0; N]) {
-            self.met.count(Of(call, Kind::RefusedInNoRoom(*refusal)));
+            self.met.count(of(call, Kind::RefusedInNoRoom(*refusal)));
         }
         let expected = expected.and_then(|written| if short == [false; N] { Ok(written) } else { Err(13) });
         let answer = match &expected {

@@ -1,6 +1,7 @@
 //! What head counts are asked for: lists of places, good or with a fault, and numbers of tokens around the bounds.
 
 use reference::{Net, State, BOUND, OLDER_BOUND};
+use seeded::nets::LONGEST;
 use seeded::numbers::Numbers;
 
 /// Places of the net, one in a byte.
@@ -29,12 +30,13 @@ pub fn places(net: &Net, numbers: &mut Numbers) -> Vec<u8> {
     places
 }
 
-/// One of the places, all of them, or some, in any order.
+/// One of the places, two, all of them, or some, in any order.
 fn some(of: &[u8], numbers: &mut Numbers) -> Vec<u8> {
     let mut rest = of.to_vec();
-    let number = match numbers.within(1, 4) {
+    let number = match numbers.within(1, 5) {
         1 => of.len(),
         2 => 1 + numbers.below(of.len()),
+        3 => of.len().min(2),
         _ => 1,
     };
     (0..number).map(|_| rest.swap_remove(numbers.below(rest.len()))).collect()
@@ -50,6 +52,8 @@ pub fn estimated(state: &State, places: &[u8]) -> u32 {
 pub fn tokens(state: &State, places: &[u8], numbers: &mut Numbers) -> u32 {
     let least = estimated(state, places);
     match numbers.within(1, 16) {
+        // so that the unplaced number is at its longest where estimates are
+        _ if least > LONGEST.0 && numbers.one_in(2) => BOUND,
         1 => least.saturating_sub(1),
         2..=4 => least,
         5..=6 => BOUND,

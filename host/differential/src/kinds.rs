@@ -1,20 +1,54 @@
 //! What the cases meet, and what they must meet.
 
 use crate::head_counts::estimated;
-use reference::{read_description_within, read_state_within, record, Net, State, BOUND, OLDER_BOUND};
+use reference::{count, known, read_description_within, read_state_within, record, Net, State, BOUND, OLDER_BOUND};
 use seeded::met::Met;
-use seeded::nets::{deepest, EDGES};
+use seeded::nets::{alone_with, deepest, depths, has_one_place, settled, EDGES};
 use std::fmt;
 use yarrowbeam::{LARGEST_DESCRIPTION, LARGEST_STATE};
 
-/// A kind, and what is of it: a call, one of its outputs, a net, a description or a state.
+/// A kind, and what is of it: a call, one of its outputs, a net, a description or a state; and when, if that matters.
 #[derive(Clone, Copy, PartialEq, Eq, Hash)]
-pub struct Of(pub &'static str, pub Kind);
+pub struct Of {
+    when: &'static str,
+    what: &'static str,
+    kind: Kind,
+}
+
+pub fn of(what: &'static str, kind: Kind) -> Of {
+    Of { when: "", what, kind }
+}
+
+impl Of {
+    /// The same when something is so: one of the words below.
+    pub fn when(self, when: &'static str) -> Of {
+        Of { when, ..self }
+    }
+}
 
 impl fmt::Display for Of {
     fn fmt(&self, f: &mut fmt::Formatter) -> fmt::Result {
-        write!(f, "{} {}", self.0, self.1)
+        write!(f, "{}{} {}", self.when, self.what, self.kind)
     }
+}
+
+/// A head count was accepted before.
+pub const AFTER_COUNT: &str = "after a count, ";
+
+/// The call that was accepted last is a head count of one place.
+pub const AFTER_ONE: &str = "after a count of one place, ";
+
+/// The state is the fresh one.
+const AT_FRESH: &str = "at a fresh state, ";
+
+/// The state has tokens unplaced in a group with one direct place; no list of calls from fresh leads there.
+const AT_OPEN: &str = "at a state open in a group with one place, ";
+
+/// What is so of a net and a state that were read.
+pub fn whens(net: &Net, state: &State) -> Vec<&'static str> {
+    let is_open = !alone_with(net, &state.unplaced).is_empty();
+    let whens = [(AT_FRESH, *state == reference::fresh(net)), (AT_OPEN, is_open)];
+    whens.into_iter().filter(|when| when.1).map(|when| when.0).collect()
 }
 
 /// One kind of answer, of room for what is to be written, of head count, of state, or of size.
@@ -75,18 +109,6 @@ impl fmt::Display for Kind {
     }
 }
 
-/// The name of a call that comes after an accepted head count.
-pub fn after_count(call: &str) -> &'static str {
-    match call {
-        "fresh" => "after a count, fresh",
-        "record" => "after a count, record",
-        "judge" => "after a count, judge",
-        "known" => "after a count, known",
-        "count" => "after a count, count",
-        _ => "after a count, older",
-    }
-}
-
 /// What is wrong in a list of places: one is 0, above P, in a group, or there twice.
 fn faults(net: &Net, places: &[u8]) -> [bool; 4] {
     let home = |place: u8| net.homes.get(usize::from(place).checked_sub(1)?);
@@ -127,6 +149,11 @@ const TOKENS: [(&str, OfTokens); 9] = [
     ("estimates above 16,777,215", |estimated, n| estimated > 16_777_215 && n <= 16_777_215),
 ];
 
+/// Head counts of one place that are accepted.
+const ONE_MORE: &str = "one place and more tokens than its estimate";
+const ONE_AS_MANY: &str = "one place and as many tokens as its estimate";
+const ONE_BESIDE_OPEN: &str = "one place, beside a group with one place that is left open";
+
 fn too_large(n: &u32) -> bool {
     *n > OLDER_BOUND
 }
@@ -159,22 +186,65 @@ pub const SHORT: [(&str, [bool; 2]); 3] = [
 /// Counts what a head count is asked for, on a net and a state that were read.
 pub fn count_head_count(net: &Net, state: &State, places: &[u8], n: u32, met: &mut Met<Of>) {
     for (name, _) in LISTS.iter().filter(|(_, is)| is(net, places)) {
-        met.count(Of("count", Kind::With(name)));
+        met.count(of("count", Kind::With(name)));
     }
     if places.is_empty() || faults(net, places) != [false; 4] {
         return;
     }
     for (name, _) in TOKENS.iter().filter(|(_, is)| is(estimated(state, places), n)) {
-        met.count(Of("count", Kind::With(name)));
+        met.count(of("count", Kind::With(name)));
     }
-    met.count(Of("count", Kind::Size(net.groups.len(), "groups")));
+    met.count(of("count", Kind::Size(net.groups.len(), "groups")));
+    if let (&[place], Ok((net, after))) = (places, count(net, state, places, n)) {
+        let more = n > state.estimates[usize::from(place) - 1];
+        met.count(of("count", Kind::With(if more { ONE_MORE } else { ONE_AS_MANY })));
+        if !alone_with(&net, &after.unplaced).is_empty() {
+            met.count(of("count", Kind::With(ONE_BESIDE_OPEN)));
+        }
+    }
 }
 
 /// Counts what is asked for older observers, of a state that was read.
 pub fn count_older(net: &Net, state: &State, met: &mut Met<Of>) {
     for (name, _) in OLDER.iter().filter(|(_, is)| is(net, state)) {
-        met.count(Of("older", Kind::With(name)));
+        met.count(of("older", Kind::With(name)));
     }
+}
+
+/// Is a net of a kind, beside its fresh state?
+type OfFresh = fn(&Net, &State) -> bool;
+
+const FRESH: [(&str, OfFresh); 7] = [
+    ("tokens, but none at a place", |net, s| {
+        net.groups.iter().any(|group| group.count > 0) && s.estimates.iter().all(|&n| n == 0)
+    }),
+    ("tokens, all of them known", |net, s| known(net, s) && s.estimates.iter().any(|&n| n > 0)),
+    ("16,777,215 tokens at a place", |_, s| s.estimates.contains(&16_777_215)),
+    ("a group with one place and no token", |net, _| {
+        (1..=net.groups.len()).any(|g| has_one_place(net, g) && net.groups[g - 1].count == 0)
+    }),
+    ("tokens at the place of a group, and unplaced ones inside it", |net, s| {
+        settled(net).iter().any(|&g| s.unplaced[g - 1] > 0)
+    }),
+    ("tokens at the place of a group, and unplaced ones around it", |net, s| {
+        settled(net).iter().map(|&g| net.groups[g - 1].around).any(|around| around != 0 && net.own(&s.unplaced, around) > 0)
+    }),
+    ("tokens at the places of two groups that lie directly in one", |net, _| {
+        let around: Vec<usize> = settled(net).iter().map(|&g| net.groups[g - 1].around).filter(|&around| around != 0).collect();
+        (1..around.len()).any(|i| around[..i].contains(&around[i]))
+    }),
+];
+
+/// How deep a group is whose tokens a fresh state has at its one place.
+const SETTLED: &str = "fresh with a group that has one place,";
+
+/// Counts what the fresh state of a net is.
+pub fn count_fresh(net: &Net, fresh: &State, met: &mut Met<Of>) {
+    for (name, _) in FRESH.iter().filter(|(_, is)| is(net, fresh)) {
+        met.count(of("fresh", Kind::With(name)));
+    }
+    let depths = depths(net);
+    settled(net).into_iter().for_each(|g| met.count(of(SETTLED, Kind::Size(depths[g], "deep"))));
 }
 
 /// Where numbers at the bounds and one past them stand.
@@ -183,10 +253,13 @@ const ESTIMATE: &str = "an estimate of";
 const UNPLACED: &str = "an unplaced number of";
 const AFTER: &str = "after an event an estimate of";
 
+/// An event that is possible.
+const RAISED_IN_OPEN: &str = "a raise in a group with one place that is open";
+
 /// Counts the numbers at the bounds and one past them among these.
-fn count_edges(of: &'static str, found: &[u32], met: &mut Met<Of>) {
+fn count_edges(what: &'static str, found: &[u32], met: &mut Met<Of>) {
     for edge in EDGES.into_iter().filter(|edge| found.contains(edge)) {
-        met.count(Of(of, Kind::Size(edge as usize, "tokens")));
+        met.count(of(what, Kind::Size(edge as usize, "tokens")));
     }
 }
 
@@ -199,12 +272,16 @@ pub fn count_edges_of(description: &[u8], state: &[u8], met: &mut Met<Of>) {
     count_edges(UNPLACED, &state.unplaced, met);
 }
 
-/// The same of the estimates that a possible event leaves, in range or not.
-pub fn count_edges_after(net: &Net, state: &State, event: u32, met: &mut Met<Of>) {
+/// The same of the estimates that a possible event leaves, in range or not; and counts events that raise in an open group.
+pub fn count_after(net: &Net, state: &State, event: u32, met: &mut Met<Of>) {
     if let Ok(_) | Err(12) = record(net, state, event) {
         let e = event as usize - 1;
         let after = |p: usize| state.estimates[p].saturating_sub(net.takes[e][p]) + net.gives[e][p];
         count_edges(AFTER, &(0..net.places()).map(after).collect::<Vec<_>>(), met);
+        let is_raised = |p: usize| net.takes[e][p] > state.estimates[p];
+        if alone_with(net, &state.unplaced).iter().any(|&g| (0..net.places()).any(|p| net.homes[p] == g && is_raised(p))) {
+            met.count(of("record", Kind::With(RAISED_IN_OPEN)));
+        }
     }
 }
 
@@ -219,42 +296,56 @@ pub fn due() -> Vec<Of> {
     let bounds = [(1, 64, "places"), (1, 64, "events"), (0, 32, "groups"), (0, 8, "deep"), (0, 16, "limits")];
     let bytes = |size: usize| [Kind::Size(size, "bytes")].into_iter();
     let mut due = Vec::new();
-    let mut add = |of, kinds: &mut dyn Iterator<Item = Kind>| due.extend(kinds.map(|kind| Of(of, kind)));
+    let mut add_when = |when, what, kinds: &mut dyn Iterator<Item = Kind>| due.extend(kinds.map(|kind| of(what, kind).when(when)));
+    let mut add = |what, kinds: &mut dyn Iterator<Item = Kind>| add_when("", what, kinds);
     add("fresh", &mut [Kind::Wrote].into_iter().chain(refusals(8)).chain([Kind::Refused(13)]).chain(rooms));
-    add("record", &mut [Kind::Wrote].into_iter().chain(refusals(13)).chain(rooms));
+    add("fresh", &mut FRESH.iter().map(|(name, _)| Kind::With(name)));
+    add(SETTLED, &mut (1..=8).map(|depth| Kind::Size(depth, "deep")));
+    add("record", &mut [Kind::Wrote].into_iter().chain(refusals(13)).chain(rooms).chain([Kind::With(RAISED_IN_OPEN)]));
     add("judge", &mut [Kind::Allow].into_iter().chain((1..=16).map(Kind::Hold)).chain(refusals(12)));
     add("known", &mut [Kind::Yes, Kind::No].into_iter().chain(refusals(9)));
     add("count", &mut [Kind::Wrote].into_iter().chain(refusals(9)).chain(refused(&[13, 14, 15, 16])));
     add("count", &mut LISTS.iter().map(|(name, _)| Kind::With(name)));
     add("count", &mut TOKENS.iter().map(|(name, _)| Kind::With(name)));
+    add("count", &mut [ONE_MORE, ONE_AS_MANY, ONE_BESIDE_OPEN].into_iter().map(Kind::With));
     add("count", &mut SHORT.iter().map(|(name, _)| Kind::With(name)));
     add("count", &mut [0, 1, 31, 32].into_iter().map(|groups| Kind::Size(groups, "groups")));
     add("count's description", &mut rooms.into_iter().chain(bytes(LARGEST_DESCRIPTION)));
     add("count's state", &mut rooms.into_iter().chain(bytes(LARGEST_STATE)));
-    add(after_count("record"), &mut [Kind::Wrote].into_iter().chain(refused(&[9, 10, 11, 12, 13])));
-    add(after_count("judge"), &mut [Kind::Allow, Kind::Hold(1)].into_iter().chain(refused(&[9, 10, 11, 12])));
-    add(after_count("known"), &mut [Kind::Yes, Kind::No, Kind::Refused(9)].into_iter());
-    add(after_count("count"), &mut [Kind::Wrote].into_iter().chain(refused(&[9, 13, 14, 15, 16])));
     add("older", &mut [Kind::Wrote].into_iter().chain(refusals(9)).chain(refused(&[13, 17])).chain(rooms));
     add("older", &mut OLDER.iter().map(|(name, _)| Kind::With(name)).chain([9, 17].map(Kind::RefusedInNoRoom)));
     add("older", &mut bytes(LARGEST_FOR_OLDER));
-    add(after_count("older"), &mut [Kind::Wrote].into_iter().chain(refused(&[9, 13, 17])));
-    for of in [COUNT, ESTIMATE, UNPLACED, AFTER] {
-        add(of, &mut EDGES.into_iter().map(|edge| Kind::Size(edge as usize, "tokens")));
+    for what in [COUNT, ESTIMATE, UNPLACED, AFTER] {
+        add(what, &mut EDGES.into_iter().map(|edge| Kind::Size(edge as usize, "tokens")));
     }
     add("list from fresh", &mut (1..=4).map(|counts| Kind::Size(counts, "head counts")));
     add("list from a given state", &mut [Kind::With("a head count")].into_iter());
     add("net", &mut bounds.into_iter().flat_map(|(least, most, of)| [Kind::Size(least, of), Kind::Size(most, of)]));
     add("description", &mut bytes(LARGEST_DESCRIPTION));
     add("state", &mut bytes(LARGEST_STATE));
+    add_when(AFTER_COUNT, "record", &mut [Kind::Wrote].into_iter().chain(refused(&[9, 10, 11, 12, 13])));
+    add_when(AFTER_COUNT, "judge", &mut [Kind::Allow, Kind::Hold(1)].into_iter().chain(refused(&[9, 10, 11, 12])));
+    add_when(AFTER_COUNT, "known", &mut [Kind::Yes, Kind::No, Kind::Refused(9)].into_iter());
+    add_when(AFTER_COUNT, "count", &mut [Kind::Wrote].into_iter().chain(refused(&[9, 13, 14, 15, 16])));
+    add_when(AFTER_COUNT, "older", &mut [Kind::Wrote].into_iter().chain(refused(&[9, 13, 17])));
+    for when in [AFTER_ONE, AT_FRESH] {
+        add_when(when, "record", &mut [Kind::Wrote].into_iter().chain(refused(&[11, 12])));
+        add_when(when, "judge", &mut [Kind::Allow, Kind::Hold(1)].into_iter().chain(refused(&[11, 12])));
+        add_when(when, "known", &mut [Kind::Yes, Kind::No].into_iter());
+    }
+    add_when(AT_OPEN, "record", &mut [Kind::Wrote].into_iter().chain(refused(&[11, 12])));
+    add_when(AT_OPEN, "judge", &mut [Kind::Allow, Kind::Hold(1)].into_iter().chain(refused(&[11, 12])));
+    add_when(AT_OPEN, "known", &mut [Kind::No].into_iter());
+    add_when(AT_OPEN, "count", &mut [Kind::Wrote].into_iter());
+    add_when(AT_OPEN, "older", &mut [Kind::Wrote].into_iter().chain(refused(&[17])));
     due
 }
 
 /// Counts the sizes of a net that was read.
 pub fn count_sizes(net: &Net, met: &mut Met<Of>) {
-    met.count(Of("net", Kind::Size(net.places(), "places")));
-    met.count(Of("net", Kind::Size(net.takes.len(), "events")));
-    met.count(Of("net", Kind::Size(net.groups.len(), "groups")));
-    met.count(Of("net", Kind::Size(deepest(net), "deep")));
-    met.count(Of("net", Kind::Size(net.limits.len(), "limits")));
+    met.count(of("net", Kind::Size(net.places(), "places")));
+    met.count(of("net", Kind::Size(net.takes.len(), "events")));
+    met.count(of("net", Kind::Size(net.groups.len(), "groups")));
+    met.count(of("net", Kind::Size(deepest(net), "deep")));
+    met.count(of("net", Kind::Size(net.limits.len(), "limits")));
 }

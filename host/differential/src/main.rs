@@ -9,7 +9,7 @@ mod kinds;
 mod older;
 
 use compare::{compare, Case};
-use kinds::{due, Kind, Of};
+use kinds::{due, of, Kind, Of};
 use reference::{write_description, write_state, Net, State};
 use seeded::damage::damaged;
 use seeded::met::Met;
@@ -27,6 +27,8 @@ struct List {
     state: State,
     /// How many head counts were accepted.
     counted: usize,
+    /// Was the call that was accepted last a head count of one place?
+    counted_one: bool,
     /// Or does it go on from a state that was given?
     from_fresh: bool,
 }
@@ -34,7 +36,7 @@ struct List {
 impl List {
     fn new(numbers: &mut Numbers) -> List {
         let net = nets::net(numbers);
-        List { state: reference::fresh(&net), net, counted: 0, from_fresh: true }
+        List { state: reference::fresh(&net), net, counted: 0, counted_one: false, from_fresh: true }
     }
 
     /// A case at this place in the list: whole, or with faults.
@@ -70,22 +72,23 @@ impl List {
             }
             _ => (),
         }
-        Case { description, state, event, places, tokens, counted: self.counted > 0 }
+        Case { description, state, event, places, tokens, counted: self.counted > 0, counted_one: self.counted_one }
     }
 
     /// The event is recorded or the head count taken, so that histories come about.
     fn go_on(&mut self, case: &Case, numbers: &mut Numbers, met: &mut Met<Of>) {
         if numbers.one_in(2) {
             if let Ok(after) = reference::record(&self.net, &self.state, case.event) {
-                self.state = after;
+                (self.state, self.counted_one) = (after, false);
             }
         } else if let Ok((net, state)) = reference::count(&self.net, &self.state, &case.places, case.tokens) {
             (self.net, self.state) = (net, state);
             self.counted += 1;
+            self.counted_one = case.places.len() == 1;
             if self.from_fresh {
-                met.count(Of("list from fresh", Kind::Size(self.counted, "head counts")));
+                met.count(of("list from fresh", Kind::Size(self.counted, "head counts")));
             } else {
-                met.count(Of("list from a given state", Kind::With("a head count")));
+                met.count(of("list from a given state", Kind::With("a head count")));
             }
         }
     }
@@ -97,7 +100,7 @@ fn run(cases: u64, seed: u64, met: &mut Met<Of>) -> Result<(), String> {
         let mut list = List::new(&mut numbers);
         for made in (first..cases).take(CASES_OF_A_NET) {
             if numbers.one_in(if list.net.groups.len() > 30 { 2 } else { 6 }) {
-                (list.state, list.from_fresh) = (nets::state(&list.net, &mut numbers), false);
+                (list.state, list.from_fresh, list.counted_one) = (nets::state(&list.net, &mut numbers), false, false);
             }
             let case = list.case(&mut numbers);
             let compared = catch_unwind(AssertUnwindSafe(|| compare(&case, &mut numbers, met)));

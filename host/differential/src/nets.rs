@@ -8,8 +8,8 @@ use reference::{judge, State, Verdict, BOUND, OLDER_BOUND};
 pub const EDGES: [u32; 4] = [OLDER_BOUND, OLDER_BOUND + 1, BOUND, BOUND + 1];
 
 /// From where to where numbers have their longest form, and the bound less any of them too.
-type Long = (u32, u32);
-const LONGEST: Long = (2_097_152, BOUND - 2_097_152);
+pub type Long = (u32, u32);
+pub const LONGEST: Long = (2_097_152, BOUND - 2_097_152);
 
 /// The same for older observers.
 const LONGEST_FOR_OLDER: Long = (16_384, OLDER_BOUND - 16_384);
@@ -25,6 +25,8 @@ struct Shape {
     filled: u32,
     /// How many of 8 places are loose at least.
     loose: u32,
+    /// No group has two direct places; those that are left over are loose.
+    alone: bool,
     /// Groups stand in chains as deep as can be, and every number has its longest form.
     longest: bool,
     /// The largest count.
@@ -32,8 +34,18 @@ struct Shape {
 }
 
 /// The shape of the largest description.
-const LARGEST: Shape =
-    Shape { places: 64, events: 64, groups: 32, depth: 8, limits: 16, filled: 8, loose: 0, longest: true, bound: BOUND };
+const LARGEST: Shape = Shape {
+    places: 64,
+    events: 64,
+    groups: 32,
+    depth: 8,
+    limits: 16,
+    filled: 8,
+    loose: 0,
+    alone: false,
+    longest: true,
+    bound: BOUND,
+};
 
 fn shape(numbers: &mut Numbers) -> Shape {
     let most = match numbers.within(1, 1_000) {
@@ -53,6 +65,7 @@ fn shape(numbers: &mut Numbers) -> Shape {
         limits: if numbers.one_in(4) { 16 } else { numbers.within(0, most.limits) },
         filled: numbers.within(1, 8),
         loose: numbers.pick(&[0, 0, 2, 4, 6, 8]),
+        alone: false,
         longest: false,
         bound: BOUND,
     };
@@ -67,6 +80,11 @@ fn shape(numbers: &mut Numbers) -> Shape {
         6..=8 => (shape.groups, shape.loose) = (numbers.within(31, 32), numbers.within(2, 8)),
         // with a count one past its bound
         9..=12 => (shape.groups, shape.bound) = (numbers.within(1, 8), BOUND + 1),
+        // with few places in many groups, at every depth
+        13..=32 => {
+            (shape.groups, shape.depth, shape.alone) = (numbers.within(1, 12), 8, true);
+            shape.places = shape.groups + numbers.within(0, 2);
+        }
         _ => (),
     }
     shape
@@ -81,6 +99,7 @@ pub fn net(numbers: &mut Numbers) -> Net {
         .map(|p| match if shape.longest { 1 + p % 8 } else { numbers.within(1, 8) } {
             share if share <= shape.loose => 0,
             _ if shape.longest => 1 + p as usize % groups.len(),
+            _ if shape.alone => if p < shape.groups { p as usize + 1 } else { 0 },
             _ => numbers.within(first, groups.len() as u32) as usize,
         })
         .collect();
@@ -187,13 +206,33 @@ fn quiet(net: &Net, shape: &Shape, numbers: &mut Numbers) -> Limit {
     Limit { ceiling: 1_000_000_000, weights }
 }
 
-/// How deep the deepest group is; 0 where there is none.
-pub fn deepest(net: &Net) -> usize {
+/// How deep each group is, by its number; at 0 stands 0, for none.
+pub fn depths(net: &Net) -> Vec<usize> {
     let mut depths = vec![0];
     for group in &net.groups {
         depths.push(depths[group.around] + 1);
     }
-    depths.into_iter().max().unwrap_or(0)
+    depths
+}
+
+/// How deep the deepest group is; 0 where there is none.
+pub fn deepest(net: &Net) -> usize {
+    depths(net).into_iter().max().unwrap_or(0)
+}
+
+/// Has the group exactly one direct place?
+pub fn has_one_place(net: &Net, g: usize) -> bool {
+    net.homes.iter().filter(|&&home| home == g).count() == 1
+}
+
+/// The groups with exactly one direct place that have a part of their own in these numbers of the groups.
+pub fn alone_with(net: &Net, numbers: &[u32]) -> Vec<usize> {
+    (1..=net.groups.len()).filter(|&g| has_one_place(net, g) && net.own(numbers, g) > 0).collect()
+}
+
+/// The groups whose tokens are all at one place from the start.
+pub fn settled(net: &Net) -> Vec<usize> {
+    alone_with(net, &net.groups.iter().map(|group| group.count).collect::<Vec<_>>())
 }
 
 /// A state that fits the net and that perhaps no history gave.
@@ -204,7 +243,8 @@ pub fn state(net: &Net, numbers: &mut Numbers) -> State {
     let high = numbers.pick(&[0, 1, 3, 3, 10, 300]);
     let estimates = (0..net.places())
         .map(|_| match (long, numbers.within(1, 40)) {
-            (Some((low, high)), _) => numbers.within(low, high),
+            // so that two of them are seldom above the bound
+            (Some((low, high)), _) => numbers.within(low, (low + high) / 2),
             (_, 1) => numbers.pick(&EDGES[..3]),
             // from where one event passes the bound
             (_, 2) => numbers.pick(&EDGES) - numbers.pick(&[1, 2, 3, 4, 255]),

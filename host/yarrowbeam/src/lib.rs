@@ -59,7 +59,21 @@ pub enum Verdict {
     Hold(u32),
 }
 
-/// Writes the fresh state of the net. Answers the number of bytes written, or refusal 1 to 8 or 13.
+/// Writes the fresh state of the net. In it the tokens of the groups are unplaced, but where a group has exactly one direct place,
+/// its own share is in the estimate of that place. Answers the number of bytes written, or refusal 1 to 8 or 13.
+///
+/// ```
+/// use yarrowbeam::{fresh, known, LARGEST_STATE};
+///
+/// // one place in a group of 5, and an event without arcs
+/// let description = [1, 1, 1, 0, 1, 1, 5, 1, 0, 1, 0];
+/// let mut state = [0; LARGEST_STATE];
+/// let length = fresh(&description, &mut state)?;
+/// // all of them are at the place, and none is unplaced
+/// assert_eq!(state[..length], [1, 1, 5, 1, 0]);
+/// assert_eq!(known(&description, &state[..length]), Ok(true));
+/// # Ok::<(), yarrowbeam::Refusal>(())
+/// ```
 #[inline]
 pub fn fresh(description: &[u8], out: &mut [u8]) -> Result<usize, Refusal> {
     written(library::fresh(description, out))
@@ -81,29 +95,35 @@ pub fn judge(description: &[u8], state: &[u8], event: u32) -> Result<Verdict, Re
     })
 }
 
-/// Is it known where all tokens are? Or refusal 1 to 9.
+/// Is it known where all tokens are: is nothing unplaced, and no place loose? Or refusal 1 to 9. After any calls from [`fresh`]
+/// that is so exactly when just one placement of the tokens agrees with the head counts and with the recorded events. A state from
+/// elsewhere is taken as it is, also if tokens are unplaced in a group with one direct place.
 #[inline]
 pub fn known(description: &[u8], state: &[u8]) -> Result<bool, Refusal> {
     Ok(accepted(library::known(description, state))? == 1)
 }
 
 /// Takes a head count while running: these loose places, one in a byte and in any order, hold `n` tokens together now. They
-/// become a new outermost group, with the next number. Writes the description with that group to `described` and the state to
-/// `out`; from then on these two are used, and a copy that was saved before is void. In the new description `n` is what was
-/// counted now, not at the start, so that [`fresh`] on it is not the state that goes on.
+/// become a new outermost group, with the next number; if it is one place, its estimate becomes `n`. Writes the description with
+/// that group to `described` and the state to `out`; from then on these two are used, and a copy that was saved before is void. In
+/// the new description `n` is what was counted now, not at the start, so that [`fresh`] on it is not the state that goes on.
 ///
 /// Answers the bytes of the description and those of the state, or refusal 1 to 9 or 13 to 16.
 ///
 /// ```
 /// use yarrowbeam::{count, LARGEST_DESCRIPTION, LARGEST_STATE};
 ///
-/// // one loose place, at which two tokens were seen, and an event without arcs
-/// let (description, state) = ([1, 1, 1, 0, 1, 0, 1, 0], [1, 1, 2, 0]);
+/// // two loose places, two tokens seen at the first, and an event without arcs
+/// let (description, state) = ([1, 2, 1, 0, 2, 0, 1, 0, 2, 0], [1, 2, 2, 0, 0]);
 /// let (mut described, mut out) = ([0; LARGEST_DESCRIPTION], [0; LARGEST_STATE]);
+/// let (length, state_length) = count(&description, &state, &[1, 2], 5, &mut described, &mut out)?;
+/// // the places in a group of 5, and 3 of them not seen yet
+/// assert_eq!(described[..length], [1, 2, 1, 0, 1, 1, 5, 2, 0, 1, 0, 2, 0]);
+/// assert_eq!(out[..state_length], [1, 2, 2, 0, 1, 3]);
+/// // or the first alone: all 5 are there, and the second stays loose
 /// let (length, state_length) = count(&description, &state, &[1], 5, &mut described, &mut out)?;
-/// // the place in a group of 5, and 3 of them not seen yet
-/// assert_eq!(described[..length], [1, 1, 1, 0, 1, 1, 5, 1, 0, 1, 0]);
-/// assert_eq!(out[..state_length], [1, 1, 2, 1, 3]);
+/// assert_eq!(described[..length], [1, 2, 1, 0, 2, 0, 2, 1, 5, 1, 0, 1, 0]);
+/// assert_eq!(out[..state_length], [1, 2, 5, 0, 1, 0]);
 /// # Ok::<(), yarrowbeam::Refusal>(())
 /// ```
 #[inline]

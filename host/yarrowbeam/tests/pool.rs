@@ -197,6 +197,32 @@ fn a_head_count() {
 }
 
 #[test]
+fn groups_with_one_place() {
+    // place 2 in a group of 3, and the others loose
+    let one = [&POOL[..4], &[3, 0, 1, 0, 3, 1, 3, 1, 0, 2], &POOL[14..]].concat();
+    let mut state = [0; 7];
+    assert_eq!(fresh(&one, &mut state), Ok(7));
+    assert_eq!(state, [1, 3, 0, 3, 0, 1, 0]);
+    // any number may be at place 3, until it is counted; then two are there after the event, and place 1 alone is open
+    assert_eq!(judge(&one, &state, 2), Ok(Verdict::Hold(1)));
+    let (mut described, mut out) = ([0; LARGEST_DESCRIPTION], [0; LARGEST_STATE]);
+    let (length, after) = count(&one, &state, &[3], 1, &mut described, &mut out).unwrap();
+    let (second, state) = (described[..length].to_vec(), out[..after].to_vec());
+    assert_eq!(state, [1, 3, 0, 3, 1, 2, 0, 0]);
+    assert_eq!(judge(&second, &state, 2), Ok(Verdict::Allow));
+    assert_eq!(known(&second, &state), Ok(false));
+    let (length, after) = count(&second, &state, &[1], 5, &mut described, &mut out).unwrap();
+    assert_eq!(described[..length], [&POOL[..4], &[3, 1, 3, 1, 0, 2, 1, 1, 1, 0, 3, 1, 5, 1, 0, 1], &POOL[14..]].concat());
+    assert_eq!(out[..after], [1, 3, 5, 3, 1, 3, 0, 0, 0]);
+    assert_eq!(known(&described[..length], &out[..after]), Ok(true));
+    // a state from elsewhere is taken as it is
+    let unplaced = [1, 3, 5, 2, 1, 3, 1, 0, 0];
+    assert_eq!(known(&described[..length], &unplaced), Ok(false));
+    assert_eq!(record(&described[..length], &unplaced, 2, &mut out), Ok(9));
+    assert_eq!(out[..9], [1, 3, 5, 1, 2, 3, 1, 0, 0]);
+}
+
+#[test]
 fn refusals_of_head_counts() {
     let (loose, state) = loose_pool();
     // place 2 in a group of 3, with one unplaced

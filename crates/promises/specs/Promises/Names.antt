@@ -13,7 +13,7 @@ pub use Rattle.theory.specs.Replies.{Reply, value, refusal, _>>=_}
 pub use Rattle.theory.specs.Judging.{top}
 pub use Rattle.theory.specs.Answers.{ask, looseSet}
 pub use Rattle.theory.specs.Calls.{Call, AllAllowed}
-pub use Rattle.theory.specs.Demands.{Demand2, Possible, Words, Demand3, WithinLimits, Stays}
+pub use Rattle.theory.specs.Demands.{Demand2, Least, JustOne, Possible, Words, Demand3, WithinLimits, Stays}
 pub use Rattle.numbers.specs.declared.Read.the-variants.{Number}
 pub use Rattle.numbers.specs.declared.Written.the-variants.{Next}
 pub use Rattle.numbers.specs.Number.{largest, form, numberAt, room, writtenAt, writeAt}
@@ -45,5 +45,5 @@ pub use Rattle.states.specs.States.Writing.{Fit}
 pub use Rattle.states.specs.States.Nets.{longestState, saved}
 pub use Rattle.observer.specs.Bytes.{describedUpTo, described, stateUpTo, stateIn, freshReply, recordReply, judgeReply, knownReply, countReply, olderReply}
 pub use Rattle.values.specs.Values.{bothCheck, restoredObserver, observerOutput, recordedObserver, observerJudged, observerKnown, observerUnplaced, unplacedOf}
-pub use Rattle.host.specs.Numbers.{refusalNumber, wroteNumber, wroteBothNumber, answerNumber}
+pub use Rattle.host.specs.Numbers.{refusalNumber, wroteNumber, wroteBothNumber, answerNumber, knownNumber}
 pub use Rattle.promises.specs.Lists.{onBytes, host, keptDescription, keptState, onValues, memory}

@@ -56,7 +56,9 @@ fn ring(homes: Vec<usize>, groups: Vec<Group>, limited: &[usize]) -> Net {
 pub fn short() -> Vec<Vec<u8>> {
     let chain = |depth: usize| (0..depth).map(|g| Group { around: g, count: (depth - g) as u32 }).collect();
     let loose = write_description(&ring(vec![0; 3], Vec::new(), &[1]));
-    let deep = write_description(&ring((1..=8).collect(), chain(8), &[0, 7]));
+    let alone = write_description(&ring((1..=8).collect(), chain(8), &[0, 7]));
+    let deep = write_description(&ring((1..=8).chain(1..=8).collect(), chain(8), &[0, 7]));
+    let full = write_description(&ring(vec![1, 2], [BOUND, 1].map(|count| Group { around: 0, count }).into(), &[1]));
     let several = [(0, 4), (1, 2), (0, 3)].map(|(around, count)| Group { around, count });
     let several = write_description(&ring(vec![0, 1, 2, 3, 3, 2, 1], several.into(), &[4, 1, 5]));
     let wide = write_description(&ring(vec![1; 20], chain(1), &[3]));
@@ -68,7 +70,9 @@ pub fn short() -> Vec<Vec<u8>> {
         input(&POOL, &[1, 1, 2, 1, 1]),
         input(&POOL, &lengths),
         input(&loose, &[1, 2, 3, 3, 4]),
-        input(&deep, &[8, 1, 7, 2, 6, 3, 5, 4, 8, 8, 9]),
+        input(&alone, &[8, 1, 7, 2, 6, 3, 5, 4, 8, 8, 9]),
+        input(&deep, &[8, 1, 7, 2, 6, 3, 5, 4, 8, 8, 17]),
+        input(&full, &[2, 1, 2, 1, 1, 2, 2]),
         input(&several, &[4, 5, 6, 7, 1, 2, 3, 4, 4, 4]),
         input(&wide, &[1, 2, 3, 20, 21]),
         input(&POOL, &[1, 0x80, 0x80]),

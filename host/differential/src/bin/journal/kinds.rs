@@ -3,7 +3,7 @@
 use reference::number::Bytes;
 use reference::read_description;
 use seeded::met::Met;
-use seeded::nets::deepest;
+use seeded::nets::{deepest, depths, settled};
 use std::ops::RangeInclusive;
 
 /// A description that is longer goes on past the program's buffer.
@@ -22,6 +22,10 @@ pub fn count(input: &[u8], printed: &str, met: &mut Met<String>) {
         for edge in [65_535, 65_536, 16_777_215].into_iter().filter(|edge| tokens.contains(edge)) {
             met.count(format!("line: {edge} tokens"));
         }
+    }
+    // before any event, so that only what was counted can be too much
+    if printed.lines().next().is_some_and(|line| line.contains(" refused 12 ")) {
+        met.count("first line: refused 12".to_string());
     }
     let end = follow(input, met);
     met.count(format!("end: {end}"));
@@ -52,6 +56,8 @@ fn follow(input: &[u8], met: &mut Met<String>) -> String {
     if !events.is_empty() {
         met.count(format!("net: {}", ["no group", "one group", "several groups"][net.groups.len().min(2)]));
         met.count(format!("net: {} deep", deepest(&net)));
+        let depths = depths(&net);
+        settled(&net).into_iter().for_each(|g| met.count(format!("group with tokens and one place: {} deep", depths[g])));
     }
     let mut events = Bytes::new(events);
     while !events.left.is_empty() {
@@ -86,6 +92,7 @@ pub fn due() -> Vec<String> {
         words("line: ", &["allow"]),
         numbers("line: hold ", 1..=16, ""),
         numbers("line: refused ", 10..=12, ""),
+        words("first line: ", &["refused 12"]),
         words("line: ", &["65535 tokens", "65536 tokens", "16777215 tokens"]),
         words("event number: ", &["0", "T + 1"]),
         numbers("event number: ", 1..=5, " bytes"),
@@ -97,6 +104,7 @@ pub fn due() -> Vec<String> {
         words("end: refused 1, an event number is ", &["not shortest, at the end", "too large, at the end"]),
         words("description past the buffer, ", &["refused before its end", "whole before its end", "the input ends in it"]),
         words("net: ", &["no group", "one group", "several groups", "8 deep"]),
+        numbers("group with tokens and one place: ", 1..=8, " deep"),
         words("reads: ", &["one piece", "two pieces", "several pieces", "a byte each", "a pipe", "a line each"]),
     ]
     .concat()

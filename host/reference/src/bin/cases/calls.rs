@@ -37,10 +37,11 @@ impl Cases {
     }
 
     /// Events one after the other from fresh, judged and recorded, held ones too.
-    fn course(&mut self, label: &str, d: &[u8], events: &[u32]) {
+    pub fn course(&mut self, label: &str, d: &[u8], events: &[u32]) {
         self.add(&format!("{label}, fresh"), d, &[], Call::Fresh, 0, ROOM);
         let net = read_description(d).unwrap();
         let mut state = fresh(&net);
+        self.known(label, d, &write_state(&state));
         for &event in events {
             self.event(label, d, &write_state(&state), event);
             if let Ok(next) = record(&net, &state, event) {
@@ -125,18 +126,18 @@ fn faulty_states(cases: &mut Cases) {
     }
 }
 
-/// "taking 2 from place 1 is impossible, though 5 less 2 is 3"
+/// "taking 2 from place 1 is impossible, though 5 less 2 is 3"; each group has a second place, so that its tokens are unplaced.
 fn nested(cases: &mut Cases) {
     let nested = net(
-        &[1, 2],
+        &[1, 2, 1, 2],
         &[(0, 5), (1, 4)],
         &[&[(1, 2, 0)], &[(1, 1, 0)], &[(2, 4, 0)], &[(2, 5, 0)], &[(1, 1, 0), (2, 4, 0)]],
         &[(3, &[(1, 1), (2, 1)])],
     );
     cases.course("nested", &nested, &[1, 4, 5, 2, 3]);
     cases.course("nested, one by one", &nested, &[2, 3, 1]);
-    for (estimates, unplaced) in [([0, 0], [5, 6]), ([0, 0], [4, 4]), ([1, 4], [0, 0]), ([0, 0], [0, 0])] {
-        cases.event(&format!("nested at {unplaced:?}"), &nested, &state(&estimates, &unplaced), 2);
+    for (seen, unplaced) in [([0, 0], [5, 6]), ([0, 0], [4, 4]), ([1, 4], [0, 0]), ([0, 0], [0, 0])] {
+        cases.event(&format!("nested at {unplaced:?}"), &nested, &state(&[seen[0], seen[1], 0, 0], &unplaced), 2);
     }
 }
 
@@ -169,20 +170,20 @@ fn loose(cases: &mut Cases) {
 
 fn empty_groups(cases: &mut Cases) {
     let empty = net(
-        &[2, 0, 4],
+        &[2, 0, 4, 2, 4],
         &[(0, 7), (1, 7), (0, 0), (0, 2)],
         &[&[(1, 3, 1)], &[(3, 2, 0)]],
         &[(9, &[(1, 2), (3, -1)])],
     );
     cases.course("empty groups", &empty, &[1, 2, 1, 1]);
-    cases.event("a remainder without place", &empty, &state(&[0, 0, 0], &[7, 6, 0, 2]), 1);
-    cases.event("a remainder in an empty group", &empty, &state(&[0, 0, 0], &[7, 7, 1, 2]), 1);
+    cases.event("a remainder without place", &empty, &state(&[0; 5], &[7, 6, 0, 2]), 1);
+    cases.event("a remainder in an empty group", &empty, &state(&[0; 5], &[7, 7, 1, 2]), 1);
 }
 
 fn depth(cases: &mut Cases) {
     let groups: Vec<(usize, u32)> = (0..8).map(|i| (i, 8 - i as u32)).collect();
     let deep = net(
-        &[1, 2, 3, 4, 5, 6, 7, 8],
+        &[1, 2, 3, 4, 5, 6, 7, 8, 1, 2, 3, 4, 5, 6, 7, 8],
         &groups,
         &[&[(8, 1, 0)], &[(1, 1, 0)], &[(1, 1, 0), (4, 1, 0), (8, 1, 0)], &[(2, 2, 0)]],
         &[(3, &[(8, 5), (1, -1)])],
@@ -256,7 +257,7 @@ fn refused_descriptions(cases: &mut Cases) {
     }
 }
 
-/// Nets of many shapes.
+/// Nets of many shapes, each with its fresh state and a state that no list of calls gave.
 fn many_shapes(cases: &mut Cases) {
     let mut random = Random(20_261_115);
     for number in 0..60 {
@@ -264,6 +265,7 @@ fn many_shapes(cases: &mut Cases) {
         let limits = random.below(4);
         let (net, state) = random.net_and_state(places, events, groups, limits);
         let (label, d, s) = (format!("net {number}"), described(&net), write_state(&state));
+        cases.add(&format!("{label}, fresh"), &d, &[], Call::Fresh, 0, ROOM);
         for event in 1..=events {
             cases.event(&label, &d, &s, event);
         }

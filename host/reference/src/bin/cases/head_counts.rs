@@ -13,10 +13,10 @@ pub fn add(cases: &mut Cases) {
     one_after_the_other(cases);
 }
 
-/// The places 1, 2 and 4 are loose; place 3 lies in a group, and place 5 in one inside it.
+/// The places 1, 2 and 4 are loose; the places 3 and 6 lie in a group, and 5 and 7 in one inside it.
 fn carts() -> Vec<u8> {
     net(
-        &[0, 0, 1, 0, 2],
+        &[0, 0, 1, 0, 2, 1, 2],
         &[(0, 5), (1, 2)],
         &[&[(1, 1, 0), (4, 0, 1)], &[(4, 1, 0), (5, 0, 1)], &[(2, 1, 3)]],
         &[(4, &[(2, 1), (4, 2)])],
@@ -25,12 +25,12 @@ fn carts() -> Vec<u8> {
 
 /// After a cart came to place 4.
 fn one_seen() -> Vec<u8> {
-    state(&[0, 0, 0, 1, 0], &[5, 2])
+    state(&[0, 0, 0, 1, 0, 0, 0], &[5, 2])
 }
 
 /// A state that no list of calls gave, with numbers up to this one.
 fn given(most: u32) -> Vec<u8> {
-    state(&[most - 535, most, 7, 400, 9], &[most, most])
+    state(&[most - 535, most, 7, 400, 9, 0, 0], &[most, most])
 }
 
 impl Cases {
@@ -59,9 +59,9 @@ fn refused(cases: &mut Cases) {
     let (d, s) = (carts(), one_seen());
     cases.counts("carts, no state", &d, &[], &[(&[], 16_777_216)]);
     cases.counts("carts, a state cut short", &d, &s[..s.len() - 1], &[(&[], 16_777_216)]);
-    cases.counts("carts", &d, &s, &[(&[], 3), (&[0], 3), (&[6], 3), (&[255, 1], 3), (&[1, 4, 1], 3), (&[3], 3)]);
+    cases.counts("carts", &d, &s, &[(&[], 3), (&[0], 3), (&[8], 3), (&[255, 1], 3), (&[1, 4, 1], 3), (&[3], 3)]);
     cases.counts("carts", &d, &s, &[(&[1, 5], 16_777_216)]);
-    cases.count("carts, count at all places 13 times", &d, &s, &[1, 2, 3, 4, 5].repeat(13), 3, [ROOM, ROOM]);
+    cases.count("carts, count at all places 13 times", &d, &s, &[1, 2, 3, 4, 5, 6, 7].repeat(13), 3, [ROOM, ROOM]);
     cases.counts("carts", &d, &s, &[(&[4], 0), (&[1, 4], 16_777_216), (&[1], 4_294_967_295)]);
     for most in [65_535, 16_777_215] {
         let asked: [(&[u8], u32); 3] = [(&[2], most - 1), (&[1, 2], most), (&[1, 2, 4], 0)];

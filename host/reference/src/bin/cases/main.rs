@@ -8,6 +8,7 @@ mod calls;
 mod descriptions;
 mod head_counts;
 mod older;
+mod one_place;
 mod parts;
 mod random;
 
@@ -15,7 +16,7 @@ use reference::number::put_number;
 use std::fmt::Write;
 
 /// The program has no room for a longer list.
-const LONGEST: usize = 131_072;
+const LONGEST: usize = 262_144;
 
 /// What a case asks.
 #[derive(Clone, Copy)]
@@ -77,6 +78,7 @@ fn main() {
     calls::add(&mut cases);
     head_counts::add(&mut cases);
     older::add(&mut cases);
+    one_place::add(&mut cases);
     let mut files = std::env::args().skip(1);
     let mut file = || files.next().expect("cases STDIN STDOUT");
     assert!(cases.input.len() <= LONGEST, "{} bytes", cases.input.len());
