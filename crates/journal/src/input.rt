@@ -1,11 +1,9 @@
 // What the bytes that were read tell of the number at a position of the input.
+use numbers::LONGEST_NUMBER;
 use numbers::Read;
 ghost use Prim.Native.Nat.{_≤_};
 ghost use lib.ListN.{length};
 ghost use Rattle.journal.specs.Passing.{Tells};
-
-// No number has more bytes.
-pub const LONGEST_NUMBER: usize = 5;
 
 // A number and the position after it; no stored number; or more bytes are needed to tell.
 pub enum Next {

@@ -34,7 +34,7 @@ fn journal(space: &mut [u8], out: &mut [u8])
     requires space { ⌜ longestNumber + longestDescription + longestNumber ≤ length (now space) ⌝ }
     requires out { ⌜ longestLine ≤ length (now out) ⌝ }
 {
-    let Filled::To(held) = streams::fill(space, 0, input::LONGEST_NUMBER) else {
+    let Filled::To(held) = streams::fill(space, 0, numbers::LONGEST_NUMBER) else {
         return;
     };
     let located = opening::locate(&space[..held], out);

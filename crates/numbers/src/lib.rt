@@ -18,6 +18,9 @@ pub enum Written {
     Full,
 }
 
+// No number has more bytes.
+pub const LONGEST_NUMBER: usize = 5;
+
 // "at most 4,294,967,295"
 const LARGEST: u64 = 4294967295;
 

@@ -116,7 +116,8 @@ counted-is d =
           pair = λ t. both description (saved later t);
           is =
               rw (e, back .1)
-              (sym (counted-alike net (back .2) (good d left x e .homes) list n (λ t. both description (saved later t)) (λ t u a. ap (both description) (saved-alike later a))));
+              (sym (counted-alike net (back .2) (good d left x e .homes) list n (λ t. both description (saved later t))
+              (λ t u a. ap (both description) (saved-alike later a))));
           leaves = λ t u.
               let found = count-yes net s list n t u in
               let count = found .0 in
