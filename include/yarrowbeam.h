@@ -71,7 +71,7 @@ int64_t fresh(const uint8_t *d, size_t d_length, uint8_t *out, size_t out_length
 int64_t record(const uint8_t *d, size_t d_length, const uint8_t *s, size_t s_length, uint32_t event,
                uint8_t *out, size_t out_length);
 
-/* Judges an event. Answers 0 to allow it, the number of the lowest limit that holds it, counted from 1, or a refusal:
+/* Judges an event. Answers 0 to allow it, the number of the highest limit that holds it, counted from 1, or a refusal:
  * 1 to 12. */
 int64_t judge(const uint8_t *d, size_t d_length, const uint8_t *s, size_t s_length, uint32_t event);
 

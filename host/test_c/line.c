@@ -11,8 +11,8 @@ static const uint8_t net[] = {
     2, 3, 1, 0, 4, 0, 1,          /* event 3: a worker of vision starts to load */
     2, 4, 1, 0, 5, 0, 1,          /* event 4: it starts to run */
     2, 3, 0, 1, 5, 1, 0,          /* event 5: it stops */
-    12, 2, 4, 2, 5, 4,            /* limit 1: vision has 6 processors; loading needs 1 and running 2 */
-    14, 3, 2, 4, 4, 2, 5, 4,      /* limit 2: the line has 7 in all; running needs 2 there too */
+    14, 3, 2, 4, 4, 2, 5, 4,      /* limit 1: the line has 7 processors; loading needs 1 and running 2 */
+    12, 2, 4, 2, 5, 4,            /* limit 2: vision has 6 of them */
 };
 
 int main(void) {

@@ -36,7 +36,7 @@ abbrev pub BothCountable : WroteBoth → Type 0
 BothCountable (WroteBoth.Bytes description state) = description * 2 ^ 32 + state < 2 ^ 63
 BothCountable (WroteBoth.Refused n) = Unit
 
--- "The answer is allow, or hold with the lowest such limit's number": limits are numbered from 1, so 0 is no limit's number
+-- "The answer is allow, or hold with" the highest "such limit's number": limits are numbered from 1, so 0 is no limit's number
 abbrev pub verdictNumber : Verdict → ℤ
 verdictNumber Allow = pos 0
 verdictNumber (Hold limit) = pos limit

@@ -10,7 +10,7 @@ use Rattle.theory.specs.Recording.{onePlace, certain, settled, nonePlaced, fres
 use Rattle.theory.specs.Recording.{inRange, unplaced, known}
 use Rattle.theory.specs.Judging.{limitSum, change, heaviest, amount, top, holds}
 use Rattle.theory.specs.Replies.{Reply, value, refusal}
-use Rattle.theory.specs.Answers.{ask, Verdict, allow, hold, lowest, recorded, judged, eachLoose, headCounted}
+use Rattle.theory.specs.Answers.{ask, Verdict, allow, hold, highest, recorded, judged, eachLoose, headCounted}
 use Rattle.theory.specs.Calls.{recording, counting, begin, call, standingFrom, standing}
 use Rattle.numbers.specs.Number.{form, groups}
 use Rattle.numbers.specs.Number as Stored
@@ -79,7 +79,7 @@ unfolding cases poolBytes form groups stored number Stored.number Stored.front S
     freshReply recordReply judgeReply knownReply standing standingFrom begin call
     place innerGroups members memberList group outermost entries row risingPlace filled arc event signedWithin term limit head limitsToEnd parts
     shared shareFits hasPlace States.value countedValues saved stateFrom state valuesBytes stateBytes joined
-    ask recorded judged lowest holds fresh nonePlaced settled certain onePlace share less inner possible raises raise own direct sum every next moved inRange
+    ask recorded judged highest holds fresh nonePlaced settled certain onePlace share less inner possible raises raise own direct sum every next moved inRange
     change sumℤ heaviest heaviestPlace top limitSum amount known unplaced gathered among inside
 cases-hold = refl
 

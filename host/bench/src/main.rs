@@ -210,16 +210,26 @@ fn times(calls: &mut [Call]) -> Vec<f64> {
     least
 }
 
-/// The calls of one observer on a case, by name. The output is not cleared between calls.
-fn calls<'a>(observer: &'a Observer, case: &'a Case) -> [(&'static str, Call<'a>); 3] {
-    let (mut begun, mut after) = ([0; ROOM], [0; ROOM]);
-    let (d, s, event) = (&case.d[..], &case.s[..], case.event);
-    [
-        ("fresh", Box::new(move || (observer.fresh)(black_box(d), black_box(&mut begun)))),
-        ("record", Box::new(move || (observer.record)(black_box(d), black_box(s), event, black_box(&mut after)))),
-        ("judge", Box::new(move || (observer.judge)(black_box(d), black_box(s), event))),
-    ]
+// One observer's calls on a case. The output is not cleared between calls.
+
+fn fresh<'a>(observer: &'a Observer, case: &'a Case) -> Call<'a> {
+    let mut begun = [0; ROOM];
+    Box::new(move || (observer.fresh)(black_box(&case.d), black_box(&mut begun)))
 }
+
+fn record<'a>(observer: &'a Observer, case: &'a Case) -> Call<'a> {
+    let mut after = [0; ROOM];
+    Box::new(move || (observer.record)(black_box(&case.d), black_box(&case.s), case.event, black_box(&mut after)))
+}
+
+fn judge<'a>(observer: &'a Observer, case: &'a Case) -> Call<'a> {
+    Box::new(move || (observer.judge)(black_box(&case.d), black_box(&case.s), case.event))
+}
+
+/// A call of one observer on a case.
+type OnCase = for<'a> fn(&'a Observer, &'a Case) -> Call<'a>;
+
+const CALLS: [(&str, OnCase); 3] = [("fresh", fresh), ("record", record), ("judge", judge)];
 
 /// A head count by one observer on a case that has loose places.
 fn count<'a>(observer: &'a Observer, case: &'a Case) -> Call<'a> {
@@ -237,54 +247,37 @@ fn older<'a>(observer: &'a Observer, case: &'a Case) -> Call<'a> {
     Box::new(move || (observer.older)(black_box(d), black_box(s), black_box(&mut same)))
 }
 
+/// The times of the three observers, and those of the host beside the others'.
+fn row(ns: &[f64]) -> String {
+    format!("{:.0} | {:.0} | {:.0} | {:.2} | {:.2}", ns[0], ns[1], ns[2], ns[0] / ns[1], ns[0] / ns[2])
+}
+
 fn time(cases: &[Case]) {
     println!("| net | bytes | call | host ns | strong ns | plain ns | host / strong | host / plain |");
     println!("|---|--:|---|--:|--:|--:|--:|--:|");
     for case in cases {
-        let mut all = OBSERVERS.each_ref().map(|observer| calls(observer, case).into_iter());
-        for i in 0..3 {
-            let mut name = "";
-            let mut same: Vec<Call> = Vec::new();
-            for observer in &mut all {
-                let (called, call) = observer.next().unwrap();
-                name = called;
-                same.push(call);
-            }
-            let ns = times(&mut same);
-            let (net, bytes) = if i == 0 { (case.name, case.d.len().to_string()) } else { ("", String::new()) };
-            println!(
-                "| {net} | {bytes} | {name} | {:.0} | {:.0} | {:.0} | {:.2} | {:.2} |",
-                ns[0],
-                ns[1],
-                ns[2],
-                ns[0] / ns[1],
-                ns[0] / ns[2]
-            );
+        let (mut net, mut bytes) = (case.name, case.d.len().to_string());
+        for (name, call) in CALLS {
+            let ns = times(&mut OBSERVERS.each_ref().map(|observer| call(observer, case)));
+            println!("| {net} | {bytes} | {name} | {} |", row(&ns));
+            (net, bytes) = ("", String::new());
         }
     }
     println!();
 }
 
-/// A call, and beside it a fresh state of the same description, since the call reads it as a fresh state does, and then writes. A
-/// column of its own says how much that is.
-fn time_beside_fresh(
-    cases: &[Case],
-    (column, size): (&str, fn(&Case) -> usize),
-    (name, call): (&str, for<'a> fn(&'a Observer, &'a Case) -> Call<'a>),
-) {
-    println!("| net | bytes | {column} | call | host ns | strong ns | plain ns | host / strong | host / plain | host's {name} / fresh |");
+/// A call by its name, and the cases of it.
+type Timed<'a> = (&'a str, OnCase, &'a [Case]);
+
+/// A call, and beside it one that is measured by the same turns; a column of its own says how much of that one it takes.
+fn time_beside((name, call, cases): Timed, (other, beside, others): Timed, (column, size): (&str, fn(&Case) -> usize)) {
+    println!("| net | bytes | {column} | call | host ns | strong ns | plain ns | host / strong | host / plain | host's {name} / {other} |");
     println!("|---|--:|--:|---|--:|--:|--:|--:|--:|--:|");
-    for case in cases {
+    for (case, other_case) in cases.iter().zip(others) {
         let mut both: Vec<Call> = OBSERVERS.iter().map(|observer| call(observer, case)).collect();
-        for observer in &OBSERVERS {
-            let [(_, fresh), ..] = calls(observer, case);
-            both.push(fresh);
-        }
+        both.extend(OBSERVERS.iter().map(|observer| beside(observer, other_case)));
         let ns = times(&mut both);
-        let row = |ns: &[f64]| {
-            format!("{:.0} | {:.0} | {:.0} | {:.2} | {:.2}", ns[0], ns[1], ns[2], ns[0] / ns[1], ns[0] / ns[2])
-        };
-        println!("| {} | {} | {} | fresh | {} | |", case.name, case.d.len(), size(case), row(&ns[3..]));
+        println!("| {} | {} | {} | {other} | {} | |", case.name, case.d.len(), size(case), row(&ns[3..]));
         println!("|  |  |  | {name} | {} | {:.2} |", row(&ns[..3]), ns[0] / ns[3]);
     }
     println!();
@@ -295,7 +288,7 @@ fn growth(cases: &[Case]) {
     println!("| bytes | fresh ns | record ns | judge ns | fresh, ns a byte | judge, ns a byte |");
     println!("|--:|--:|--:|--:|--:|--:|");
     for case in cases {
-        let ns = times(&mut calls(&OBSERVERS[0], case).map(|(_, call)| call));
+        let ns = times(&mut CALLS.map(|(_, call)| call(&OBSERVERS[0], case)));
         let bytes = case.d.len();
         println!(
             "| {bytes} | {:.0} | {:.0} | {:.0} | {:.2} | {:.2} |",
@@ -317,8 +310,9 @@ fn stacks(case: &Case, loosened: &Case) {
     println!("| stack, bytes | fresh | record | judge | count | older |");
     println!("|---|--:|--:|--:|--:|--:|");
     for observer in &OBSERVERS {
-        let [fresh, record, judge] = calls(observer, case).map(|(_, call)| call);
-        let touched = [fresh, record, judge, count(observer, loosened), older(observer, case)].map(|mut call| {
+        let on: [(OnCase, &Case); 5] = [(fresh, case), (record, case), (judge, case), (count, loosened), (older, case)];
+        let touched = on.map(|(call, case)| {
+            let mut call = call(observer, case);
             stack::touched(&mut || {
                 black_box(call());
             }) - nothing
@@ -332,11 +326,13 @@ fn main() {
     if std::env::args().any(|word| word == "journal") {
         return journal::speeds(&nets::rounds());
     }
-    let (cases, loosened) = (nets::all(), nets::loosened());
-    alike(cases.iter().chain(&loosened));
+    let (cases, held, loosened) = (nets::all(), nets::held(), nets::loosened());
+    alike(cases.iter().chain(&held).chain(&loosened));
     time(&cases);
-    time_beside_fresh(&loosened, ("places", |case| case.places.len()), ("count", count));
-    time_beside_fresh(&cases, ("state", |case| case.s.len()), ("older", older));
+    let limits = |case: &Case| usize::from(case.d[3]);
+    time_beside(("held", judge, &held), ("allowed", judge, &cases), ("limits", limits));
+    time_beside(("count", count, &loosened), ("fresh", fresh, &loosened), ("places", |case| case.places.len()));
+    time_beside(("older", older, &cases), ("fresh", fresh, &cases), ("state", |case| case.s.len()));
     growth(&nets::growing());
     stacks(&cases[2], &loosened[2]);
     journal::speeds(&nets::rounds());

@@ -201,6 +201,16 @@ fn loosen(case: Case) -> Case {
     Case { d, s, places, tokens, ..case }
 }
 
+/// The case with every ceiling below 0, as far as it was above: the event is held, by every limit. The description is as long.
+fn hold(case: Case) -> Case {
+    let mut net = reference::read_description(&case.d).unwrap();
+    net.limits.iter_mut().for_each(|limit| limit.ceiling = -limit.ceiling);
+    let d = reference::write_description(&net);
+    assert_eq!(d.len(), case.d.len());
+    assert_eq!(reference::holding(&net, &reference::read_state(&net, &case.s).unwrap(), case.event).unwrap().len(), net.limits.len());
+    Case { d, ..case }
+}
+
 /// A small net without a pattern, with loose places, uneven nesting and low ceilings, and a state that fits it; for comparing.
 pub fn small(numbers: &mut Numbers) -> (Vec<u8>, Vec<u8>) {
     let places = numbers.within(1, 6) as usize;
@@ -262,6 +272,11 @@ pub fn all() -> Vec<Case> {
         assert_eq!(plain::judge(&case.d, &case.s, case.event), 0, "{}: every limit is weighed", case.name);
     }
     all
+}
+
+/// The same nets for an event that is held.
+pub fn held() -> Vec<Case> {
+    all().into_iter().map(hold).collect()
 }
 
 /// The same nets for head counts, each with the places of its last group loose; and one that is loose places and little else, of

@@ -1,6 +1,6 @@
 //! One case: every call through the library beside the reference.
 
-use crate::kinds::{count_after, count_edges_of, count_fresh, count_head_count, count_older, count_sizes};
+use crate::kinds::{count_after, count_edges_of, count_fresh, count_head_count, count_holding, count_older, count_sizes};
 use crate::kinds::{of, whens, Kind, Of, Room, AFTER_COUNT, AFTER_ONE, SHORT};
 use crate::older;
 use reference::{read_description, read_state, write_description, write_state, Net, State};
@@ -92,6 +92,7 @@ fn expected(case: &Case, met: &mut Met<Of>) -> Expected {
     count_head_count(&net, &state, &case.places, case.tokens, met);
     count_older(&net, &state, met);
     count_after(&net, &state, case.event, met);
+    count_holding(&net, &state, case.event, met);
     Expected {
         fresh,
         record: reference::record(&net, &state, case.event).map(|after| [write_state(&after)]),

@@ -1,7 +1,7 @@
 //! What the cases meet, and what they must meet.
 
 use crate::head_counts::estimated;
-use reference::{count, known, read_description_within, read_state_within, record, Net, State, BOUND, OLDER_BOUND};
+use reference::{count, holding, known, read_description_within, read_state_within, record, Net, State, BOUND, OLDER_BOUND};
 use seeded::met::Met;
 use seeded::nets::{alone_with, deepest, depths, has_one_place, settled, EDGES};
 use std::fmt;
@@ -285,6 +285,36 @@ pub fn count_after(net: &Net, state: &State, event: u32, met: &mut Met<Of>) {
     }
 }
 
+/// The limit that is named holds the event alone, or is the highest of several.
+const ALONE: &str = "judge by one limit alone,";
+const OVER_OTHERS: &str = "judge by the highest of several limits,";
+
+/// Is another limit of a kind, beside the one that is named? The two numbers, whether the other holds too, and whether the two are equal.
+type OfOther = fn(u32, u32, bool, bool) -> bool;
+
+const OTHERS: [(&str, OfOther); 6] = [
+    ("a lower limit that holds and is equal", |other, named, holds, equal| other < named && holds && equal),
+    ("a lower limit that holds and is different", |other, named, holds, equal| other < named && holds && !equal),
+    ("a lower limit that does not hold", |other, named, holds, _| other < named && !holds),
+    ("a higher limit that does not hold", |other, named, holds, _| other > named && !holds),
+    ("a limit next below that holds", |other, named, holds, _| other + 1 == named && holds),
+    ("limit 1 that holds", |other, named, holds, _| other == 1 && named > 1 && holds),
+];
+
+/// Counts which limits hold an event, and beside which others.
+pub fn count_holding(net: &Net, state: &State, event: u32, met: &mut Met<Of>) {
+    let Ok(holding) = holding(net, state, event) else { return };
+    let Some((&named, lower)) = holding.split_last() else { return };
+    met.count(of(if lower.is_empty() { ALONE } else { OVER_OTHERS }, Kind::Hold(named)));
+    let limit = |number: u32| &net.limits[number as usize - 1];
+    for (name, is) in OTHERS {
+        let is = |other: u32| is(other, named, holding.contains(&other), limit(other) == limit(named));
+        if (1..=net.limits.len() as u32).any(is) {
+            met.count(of("judge", Kind::With(name)));
+        }
+    }
+}
+
 /// The length of the largest state that is written for older observers.
 const LARGEST_FOR_OLDER: usize = 291;
 
@@ -303,6 +333,9 @@ pub fn due() -> Vec<Of> {
     add(SETTLED, &mut (1..=8).map(|depth| Kind::Size(depth, "deep")));
     add("record", &mut [Kind::Wrote].into_iter().chain(refusals(13)).chain(rooms).chain([Kind::With(RAISED_IN_OPEN)]));
     add("judge", &mut [Kind::Allow].into_iter().chain((1..=16).map(Kind::Hold)).chain(refusals(12)));
+    add(ALONE, &mut (1..=16).map(Kind::Hold));
+    add(OVER_OTHERS, &mut (2..=16).map(Kind::Hold));
+    add("judge", &mut OTHERS.iter().map(|(name, _)| Kind::With(name)));
     add("known", &mut [Kind::Yes, Kind::No].into_iter().chain(refusals(9)));
     add("count", &mut [Kind::Wrote].into_iter().chain(refusals(9)).chain(refused(&[13, 14, 15, 16])));
     add("count", &mut LISTS.iter().map(|(name, _)| Kind::With(name)));

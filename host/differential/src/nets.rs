@@ -120,10 +120,17 @@ pub fn net(numbers: &mut Numbers) -> Net {
         net.takes.push(row());
         net.gives.push(row());
     }
-    // The limits before this one are quiet, so that each number is at times that of the lowest limit that holds.
-    let first = numbers.within(0, shape.limits);
+    // The limits from this one on are quiet, and at times all before it but one, so that each number is at times that of the highest
+    // limit that holds, or of the only one.
+    let end = numbers.within(0, shape.limits);
+    let first = if numbers.one_in(3) { end.saturating_sub(1) } else { 0 };
     for l in 0..shape.limits {
-        let limit = if l < first && !shape.longest { quiet(&net, &shape, numbers) } else { limit(&shape, numbers) };
+        let limit = match net.limits.last() {
+            _ if shape.longest => limit(&shape, numbers),
+            Some(before) if numbers.one_in(8) => before.clone(),
+            _ if (first..end).contains(&l) => limit(&shape, numbers),
+            _ => quiet(&net, &shape, numbers),
+        };
         net.limits.push(limit);
     }
     net

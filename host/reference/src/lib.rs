@@ -11,7 +11,7 @@ pub mod number;
 pub mod observer;
 
 pub use description::{read_description, read_description_within, write_description, Net};
-pub use observer::{count, fresh, judge, known, older, read_state, read_state_within, record, write_state, State, Verdict};
+pub use observer::{count, fresh, holding, judge, known, older, read_state, read_state_within, record, write_state, State, Verdict};
 
 /// "Number when the answer is no".
 pub type Refusal = u32;

@@ -55,7 +55,7 @@ pub const LARGEST_STACK: usize = 6_144;
 pub enum Verdict {
     /// No limit holds it.
     Allow,
-    /// The lowest limit that holds it has this number, counted from 1.
+    /// The highest limit that holds it has this number, counted from 1.
     Hold(u32),
 }
 

@@ -61,6 +61,7 @@ pub fn short() -> Vec<Vec<u8>> {
     let full = write_description(&ring(vec![1, 2], [BOUND, 1].map(|count| Group { around: 0, count }).into(), &[1]));
     let several = [(0, 4), (1, 2), (0, 3)].map(|(around, count)| Group { around, count });
     let several = write_description(&ring(vec![0, 1, 2, 3, 3, 2, 1], several.into(), &[4, 1, 5]));
+    let narrow = write_description(&ring(vec![1; 3], vec![Group { around: 0, count: 3 }], &[1, 2, 1, 1, 2]));
     let wide = write_description(&ring(vec![1; 20], chain(1), &[3]));
     let lengths = stored(&[1, 0, 4, 127, 128, 16_383, 16_384, 2_097_151, 2_097_152, 268_435_455, 268_435_456, u32::MAX, 2]);
     let changed = |at: usize, byte: u8| [&POOL[..at], &[byte], &POOL[at + 1..]].concat();
@@ -74,6 +75,7 @@ pub fn short() -> Vec<Vec<u8>> {
         input(&deep, &[8, 1, 7, 2, 6, 3, 5, 4, 8, 8, 17]),
         input(&full, &[2, 1, 2, 1, 1, 2, 2]),
         input(&several, &[4, 5, 6, 7, 1, 2, 3, 4, 4, 4]),
+        input(&narrow, &[1, 2, 1, 1, 3, 1, 2, 2]),
         input(&wide, &[1, 2, 3, 20, 21]),
         input(&POOL, &[1, 0x80, 0x80]),
         input(&POOL, &[1, 0x80, 0x00, 1]),

@@ -1,7 +1,7 @@
 //! What the cases meet, in words, and what they must meet.
 
 use reference::number::Bytes;
-use reference::read_description;
+use reference::{fresh, holding, read_description, record};
 use seeded::met::Met;
 use seeded::nets::{deepest, depths, settled};
 use std::ops::RangeInclusive;
@@ -60,6 +60,7 @@ fn follow(input: &[u8], met: &mut Met<String>) -> String {
         settled(&net).into_iter().for_each(|g| met.count(format!("group with tokens and one place: {} deep", depths[g])));
     }
     let mut events = Bytes::new(events);
+    let mut state = fresh(&net);
     while !events.left.is_empty() {
         let before = events.left.len();
         let Ok(event) = events.number() else { return format!("refused 1, an event number is {}", fault(events.left)) };
@@ -70,6 +71,12 @@ fn follow(input: &[u8], met: &mut Met<String>) -> String {
         if event as usize == net.takes.len() + 1 {
             met.count("event number: T + 1".to_string());
         }
+        match holding(&net, &state, event).as_deref() {
+            Ok([named]) => met.count(format!("line: hold {named} alone")),
+            Ok([.., named]) => met.count(format!("line: hold {named} over others")),
+            _ => (),
+        }
+        state = record(&net, &state, event).unwrap_or(state);
     }
     "silent".to_string()
 }
@@ -91,6 +98,8 @@ pub fn due() -> Vec<String> {
     [
         words("line: ", &["allow"]),
         numbers("line: hold ", 1..=16, ""),
+        numbers("line: hold ", 1..=16, " alone"),
+        numbers("line: hold ", 2..=16, " over others"),
         numbers("line: refused ", 10..=12, ""),
         words("first line: ", &["refused 12"]),
         words("line: ", &["65535 tokens", "65536 tokens", "16777215 tokens"]),

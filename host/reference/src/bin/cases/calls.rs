@@ -20,6 +20,7 @@ pub fn add(cases: &mut Cases) {
     empty_groups(cases);
     depth(cases);
     weights(cases);
+    several_limits(cases);
     longest_state(cases);
     refused_descriptions(cases);
     many_shapes(cases);
@@ -191,7 +192,7 @@ fn depth(cases: &mut Cases) {
     cases.course("depth 8", &deep, &[4, 1, 2, 3, 1]);
 }
 
-/// Judging: the estimate alone, the heaviest weight below 0, a ceiling that is passed already, the lowest of two limits.
+/// Judging: the estimate alone, the heaviest weight below 0, a ceiling that is passed already.
 fn weights(cases: &mut Cases) {
     let weights = net(
         &[1, 1, 2, 2],
@@ -216,6 +217,34 @@ fn weights(cases: &mut Cases) {
         for event in 1..=5 {
             cases.event(&format!("weights at {estimates:?} {unplaced:?}"), &weights, &state(&estimates, &unplaced), event);
         }
+    }
+}
+
+/// 16 limits on 16 places without tokens, to each of which an event gives one: each limit holds alone, and over others.
+fn several_limits(cases: &mut Cases) {
+    let net = |weight: fn(usize, usize) -> i64| {
+        let limit = |l: usize| Limit { ceiling: 0, weights: (1..=16).map(|p| weight(l, p)).collect() };
+        described(&Net {
+            homes: vec![1; 16],
+            groups: vec![Group { around: 0, count: 0 }],
+            takes: vec![vec![0; 16]; 16],
+            gives: (1..=16).map(|e| (1..=16).map(|p| u32::from(p == e)).collect()).collect(),
+            limits: (1..=16).map(limit).collect(),
+        })
+    };
+    let empty = state(&[0; 16], &[0]);
+    let alone = net(|l, p| i64::from(l == p));
+    let over_others = net(|l, p| if l <= p { l as i64 } else { -1 });
+    for event in 1..=16 {
+        cases.add(&format!("limit {event} alone, judge"), &alone, &empty, Call::Judge, event, 0);
+        cases.add(&format!("limit {event} over others, judge"), &over_others, &empty, Call::Judge, event, 0);
+    }
+    let (fours, all) = (net(|l, p| i64::from(p == l.div_ceil(4))), net(|_, p| i64::from(p == 1)));
+    for event in 1..=5 {
+        cases.add(&format!("four equal limits, judge {event}"), &fours, &empty, Call::Judge, event, 0);
+    }
+    for event in [1, 2] {
+        cases.add(&format!("equal limits, judge {event}"), &all, &empty, Call::Judge, event, 0);
     }
 }
 
