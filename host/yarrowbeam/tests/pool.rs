@@ -45,6 +45,19 @@ fn from_fresh_to_known() {
 }
 
 #[test]
+fn the_highest_of_two_limits() {
+    // at most two in place 3, and at most one, in either order
+    let [broad, narrow] = [[0x04, 0x01, 0x03, 0x02], [0x02, 0x01, 0x03, 0x02]];
+    for (limits, alone) in [([broad, narrow], 2), ([narrow, broad], 1)] {
+        let net = [&POOL[..3], &[2], &POOL[4..35], &limits.concat()].concat();
+        // event 2 may leave three there, then two, then one
+        assert_eq!(judge(&net, &FRESH, 2), Ok(Verdict::Hold(2)));
+        assert_eq!(judge(&net, &state_of(&[2], &[1]), 2), Ok(Verdict::Hold(alone)));
+        assert_eq!(judge(&net, &state_of(&[3], &[0]), 2), Ok(Verdict::Allow));
+    }
+}
+
+#[test]
 fn refusals_of_descriptions() {
     let changed = |at: usize, byte: u8| [&POOL[..at], &[byte], &POOL[at + 1..]].concat();
     let cases = [
