@@ -329,6 +329,7 @@ fn main() {
     let (cases, held, loosened) = (nets::all(), nets::held(), nets::loosened());
     alike(cases.iter().chain(&held).chain(&loosened));
     time(&cases);
+    // the fourth number of a description; those before it have a byte each too
     let limits = |case: &Case| usize::from(case.d[3]);
     time_beside(("held", judge, &held), ("allowed", judge, &cases), ("limits", limits));
     time_beside(("count", count, &loosened), ("fresh", fresh, &loosened), ("places", |case| case.places.len()));
