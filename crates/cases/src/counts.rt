@@ -10,12 +10,12 @@ pub fn answers<'a>(
     room: usize,
 ) {
     // more than the description that a case writes, and more than its state
-    let mut described_space = [0u8; 400];
-    let mut space = [0u8; 400];
-    if 400 < described_room {
+    let mut described_space = [0u8; 500];
+    let mut space = [0u8; 500];
+    if 500 < described_room {
         return;
     }
-    if 400 < room {
+    if 500 < room {
         return;
     }
     let described = &mut described_space[0..described_room];

@@ -3,6 +3,7 @@
 mod calls;
 mod counts;
 mod descriptions;
+mod editions;
 mod input;
 mod older;
 mod words;
@@ -30,6 +31,10 @@ const CHANGED: u32 = 6;
 const COUNT: u32 = 7;
 
 const OLDER: u32 = 8;
+
+const DENSE: u32 = 9;
+
+const SPARSE: u32 = 10;
 
 fn main() {
     // more than the list of cases has
@@ -90,6 +95,8 @@ fn answer<'a>(
         CHANGED => descriptions::changed(d, event as usize),
         COUNT => counts::answers(d, s, places, event, described_room, room),
         OLDER => older::answers(d, s, room),
+        DENSE => editions::answers(d, s, call, room),
+        SPARSE => editions::answers(d, s, call, room),
         _ => calls::answers(d, s, call, event, room),
     }
 }

@@ -5,6 +5,7 @@ pub mod Places
 pub mod Joined
 pub mod Filling
 pub mod Walk
+pub mod Counting
 pub mod Measured
 pub mod Both
 pub mod Longest

@@ -147,7 +147,7 @@ module _ (s rest : List ℕ) where
       go nothing e = rw (nothing-extended enough e)
 
 -- the numbers below 128 ^ size have at most so many bytes
-form-short : (size above n : ℕ) → 0 < size → above < 128 ^ size → n ≤ largest → n ≤ above → length (form n) ≤ size
+pub form-short : (size above n : ℕ) → 0 < size → above < 128 ^ size → n ≤ largest → n ≤ above → length (form n) ≤ size
 form-short zero above n some below small h = omega arith
 form-short (suc k) above n some below small h = form-length n k (omega arith) .1 (omega arith)
 

@@ -34,3 +34,5 @@ pub const MISCOUNTED: u32 = 15;
 pub const NO_GROUP_LEFT: u32 = 16;
 // Are all numbers of a state within the bound of older observers?
 pub const TOO_LARGE: u32 = 17;
+// Are the places of a state's pairs in order and range, and their estimates not zero?
+pub const UNFIT_PAIR: u32 = 18;

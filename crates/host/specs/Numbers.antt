@@ -12,7 +12,7 @@ use Rattle.net.specs.declared.Answer.the-variants as Answer
 use Rattle.net.specs.declared.Known.{Known}
 use Rattle.net.specs.declared.Known.the-variants as Known
 
--- "a refusal with its number": minus the number, which is from 1 to 17
+-- "a refusal with its number": minus the number, which is from 1 to 18
 abbrev pub refusalNumber : ℕ → ℤ
 refusalNumber n = negℤ (pos n)
 

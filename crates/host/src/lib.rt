@@ -9,7 +9,7 @@ ghost use mathlib.Core.Path.{_≡_};
 ghost use lib.ListN.{length};
 ghost use Rattle.codec.specs.Output.{answer, left, bothAnswer, descriptionLeft, stateLeft};
 ghost use Rattle.net.specs.Answers.{answerOf, knownOf};
-ghost use Rattle.observer.specs.Bytes.{freshReply, recordReply, knownReply, judgeReply, countReply, olderReply};
+ghost use Rattle.observer.specs.Bytes.{freshReply, recordReply, knownReply, judgeReply, countReply, olderReply, denseReply, sparseReply};
 ghost use Rattle.host.specs.Numbers.{Countable, BothCountable, refusalNumber, wroteNumber, wroteBothNumber, answerNumber, knownNumber};
 
 // Writes the fresh state of the net that the bytes describe, if it fits the output: the number of
@@ -90,6 +90,28 @@ pub extern "C" fn older<'a>(d: &'a [u8], s: &'a [u8], out: &mut [u8]) -> i64
     ensures output { λ _. ⌜ now (out .exit) ≡ left (now (out .entry)) (olderReply (now (d .entry)) (now (s .entry))) ⌝ }
 {
     let wrote = observer::older(d, s, out);
+    wrote_number(wrote)
+}
+
+// Writes the same state in edition 1, if it fits the output: the number of bytes. A refusal writes
+// nothing.
+#[no_mangle]
+pub extern "C" fn dense<'a>(d: &'a [u8], s: &'a [u8], out: &mut [u8]) -> i64
+    ensures answer { λ r. ⌜ r ≡ wroteNumber (answer (length (now (out .entry))) (denseReply (now (d .entry)) (now (s .entry)))) ⌝ }
+    ensures output { λ _. ⌜ now (out .exit) ≡ left (now (out .entry)) (denseReply (now (d .entry)) (now (s .entry))) ⌝ }
+{
+    let wrote = observer::dense(d, s, out);
+    wrote_number(wrote)
+}
+
+// Writes the same state in edition 2, if it fits the output: the number of bytes. A refusal writes
+// nothing.
+#[no_mangle]
+pub extern "C" fn sparse<'a>(d: &'a [u8], s: &'a [u8], out: &mut [u8]) -> i64
+    ensures answer { λ r. ⌜ r ≡ wroteNumber (answer (length (now (out .entry))) (sparseReply (now (d .entry)) (now (s .entry)))) ⌝ }
+    ensures output { λ _. ⌜ now (out .exit) ≡ left (now (out .entry)) (sparseReply (now (d .entry)) (now (s .entry))) ⌝ }
+{
+    let wrote = observer::sparse(d, s, out);
     wrote_number(wrote)
 }
 

@@ -21,6 +21,7 @@ use Rattle.net.specs.declared.Checked.the-variants.{Good, Refused}
 use Rattle.net.specs.Bounds.{mostPlaces, mostGroups}
 use Rattle.net.specs.View.{at64, eventRow, netOf, rulesOf}
 use Rattle.net.specs.Check.{counted, netCheck}
+use Rattle.net.specs.declared.Edition.the-variants.{First}
 use Rattle.net.specs.Observers.{observerOf, observedOf, freshObserver}
 use Rattle.net.proofs.Check.{WellFormed, well-formed}
 use Rattle.net.specs.Answers.{answerOf}
@@ -46,7 +47,7 @@ module _ (net : Net) (good : netCheck net ≡ value tt) {observed : Observed} (e
   fine : WellFormed net
   fine = well-formed net good
 
-  observer-is : observed .observer ≡ observerOf net (fresh (netOf net))
+  observer-is : observed .observer ≡ observerOf First net (fresh (netOf net))
   unfolding freshObserver
   observer-is = ap (λ (o : Observed). o .observer) e ∙ rw good
 

@@ -28,6 +28,8 @@ use Rattle.theory.proofs.Fitting.{Good, Fitting}
 use Rattle.codec.specs.Reader.{Result, ok, read}
 use Rattle.codec.specs.Output.{fitting, answer, Pair, bothFitting, bothAnswer}
 use Rattle.codec.specs.declared.WroteBoth.the-variants as WroteBoth
+use Rattle.net.specs.declared.Edition.{Edition}
+use Rattle.net.specs.declared.Edition.the-variants.{First}
 use Rattle.net.specs.Answers.{answerOf}
 use Rattle.net.proofs.Recounted.{loose-list}
 use Rattle.description.specs.Grammar.{Parts, parts, netFrom, recountedParts}
@@ -36,13 +38,13 @@ use Rattle.description.proofs.Recounted.{recounted-view, parts-recounted}
 use Rattle.states.specs.States.Writing.{Fit}
 use Rattle.states.specs.States.Nets.{saved}
 use Rattle.states.proofs.Nets.{saved-alike, fit-fitting, fit-next, fit-fresh, fit-count}
-use Rattle.observer.specs.Bytes.{netIn, described, stateIn, freshReply, recordReply, judgeReply, knownReply, countReply}
+use Rattle.observer.specs.Bytes.{netIn, described, stateIn, freshReply, recordReply, judgeReply, knownReply, countReply, convertedReply}
 use Rattle.observer.proofs.Described.{good}
-use Rattle.promises.specs.Lists.{withState, onBytes, host, keptDescription, keptState}
+use Rattle.promises.specs.Lists.{editionNumbered, withState, onBytes, host, keptDescription, keptState}
 use Rattle.host.proofs.Numbers.{both-refused}
 use Rattle.promises.specs.Promises.{onBytesTold, estimateAfter, ListsOnBytes, Leaves, Recounts, StateOnBytes}
 use Rattle.promises.proofs.Told.{report-iff, known-told, rooms-iff, bytes-told, in-numbers}
-use Rattle.promises.proofs.Described.{of-described, Fine, fine-net, BytesOf, read-back, read-are}
+use Rattle.promises.proofs.Described.{of-described, Fine, fine-net, BytesOf, state-alone, read-back, state-are}
 
 -- recording leaves a state that fits
 pub recorded-fit : (net : Net) {s t : State} (number : ℕ) → Fit bound (net .places) (net .groups) s → recorded net s number ≡ value t
@@ -52,27 +54,27 @@ recorded-fit net {s} {t} number fit u =
     rw (found .2) (fit-next net (found .0) fit (found .1 .range))
 
 -- these are a description of the net and the bytes of a state of it
-record PairOf (net : Net) (pair : Pair) (s : State) : Type 0 where
-  net-is : described (pair .description) ≡ value net
-  state-is : BytesOf net (pair .state) s
+pub record PairOf (net : Net) (pair : Pair) (s : State) : Type 0 where
+  pub net-is : described (pair .description) ≡ value net
+  pub state-is : BytesOf net (pair .state) s
 
 -- a description and a state
-abbrev both : List ℕ → List ℕ → Pair
+abbrev pub both : List ℕ → List ℕ → Pair
 both d b = record { description = d; state = b }
 
 module _ (d : List ℕ) (net : Net) (says : described d ≡ value net) (b : List ℕ) (s : State) (bytes : BytesOf net b s) where
   -- ---- recording and judging
 
-  recorded-is : (number : ℕ) → recordReply d b number ≡ (recorded net s number >>= λ t. value (saved net t))
+  pub recorded-is : (number : ℕ) → recordReply d b number ≡ (recorded net s number >>= λ t. value (saved (bytes .edition) net t))
   unfolding recordReply
   recorded-is number =
-      let back = read-back d net says b s bytes in
-      rw (says, back .1) (sym (recorded-alike net (back .2) (saved net) (λ t u. saved-alike net) number))
+      let back = read-back d net says b bytes in
+      rw (says, back .1) (sym (recorded-alike net (back .2) (saved (bytes .edition) net) (λ t u. saved-alike net (bytes .edition)) number))
 
-  judged-is : (number : ℕ) → judgeReply d b number ≡ judged net s number
+  pub judged-is : (number : ℕ) → judgeReply d b number ≡ judged net s number
   unfolding judgeReply
   judged-is number =
-      let back = read-back d net says b s bytes in
+      let back = read-back d net says b bytes in
       rw (says, back .1) (sym (judge-alike net (back .2) number))
 
   -- recording leaves the description, and the bytes of the theory's next state, where there is room for them
@@ -81,70 +83,104 @@ module _ (d : List ℕ) (net : Net) (says : described d ≡ value net) (b : List
   record-tied number room = rw (recorded-is number) (go (recorded net s number) refl)
     where
       enough : (t : State) → Fit bound (net .places) (net .groups) t → (some : Bool)
-          → Tied (PairOf net) ((question some noRoom >>= λ _. value (saved net t)) >>= λ after. value (both d after)) (value t)
-      enough t fit true = Lists.both _ _ (record { net-is = says; state-is = record { are = refl; fit = fit } })
+          → Tied (PairOf net) ((question some noRoom >>= λ _. value (saved (bytes .edition) net t)) >>= λ after. value (both d after)) (value t)
+      enough t fit true = Lists.both _ _ (record { net-is = says; state-is = record { edition = bytes .edition; are = refl; fit = fit } })
       enough t fit false = full t
 
       go : (r : Reply State) → recorded net s number ≡ r
-          → Tied (PairOf net) (fitting room (r >>= λ t. value (saved net t)) >>= λ after. value (both d after)) r
+          → Tied (PairOf net) (fitting room (r >>= λ t. value (saved (bytes .edition) net t)) >>= λ after. value (both d after)) r
       go (refusal n) u = neither n
-      go (value t) u = enough t (recorded-fit net number (bytes .fit) u) (leb (length (saved net t)) room)
+      go (value t) u = enough t (recorded-fit net number (bytes .fit) u) (leb (length (saved (bytes .edition) net t)) room)
 
 -- ---- head counts
 
--- a head count answers as the theory's does, with what it leaves for the theory's state
-record Counts (net : Net) (s : State) (list : List ℕ) (n : ℕ) (reply : Reply Pair) : Type 0 where
-  pair : State → Pair
-  is : reply ≡ (headCounted net s list n >>= λ t. value (pair t))
-  leaves : (t : State) → headCounted net s list n ≡ value t → PairOf (recounted net list n) (pair t) t
+-- a head count answers as the theory's does, with this description, and the theory's state in the edition
+pub record Counts (net : Net) (s : State) (list : List ℕ) (n : ℕ) (edition : Edition) (description : List ℕ) (reply : Reply Pair) : Type 0 where
+  pub is : reply ≡ (headCounted net s list n >>= λ t. value (both description (saved edition (recounted net list n) t)))
+  pub leaves : (t : State) → headCounted net s list n ≡ value t
+      → PairOf (recounted net list n) (both description (saved edition (recounted net list n) t)) t
 
-counted-is : (d : List ℕ) (net : Net) → described d ≡ value net → (b : List ℕ) (s : State) → BytesOf net b s → (list : List ℕ) (n : ℕ)
-    → Counts net s list n (countReply d b list n)
+-- the description is the same whatever the state
+pub counted-is : (d : List ℕ) (net : Net) → described d ≡ value net → (list : List ℕ) (n : ℕ)
+    → (description : List ℕ)
+    × ((b : List ℕ) (s : State) (bytes : BytesOf net b s) → Counts net s list n (bytes .edition) description (countReply d b list n))
 unfolding countReply
 counted-is d =
-    of-described d (λ net. (b : List ℕ) (s : State) → BytesOf net b s → (list : List ℕ) (n : ℕ) → Counts net s list n (countReply d b list n)) each
+    of-described d (λ net. (list : List ℕ) (n : ℕ) → (description : List ℕ)
+    × ((b : List ℕ) (s : State) (bytes : BytesOf net b s) → Counts net s list n (bytes .edition) description (countReply d b list n))) each
   where
-    each : (left : List ℕ) (x : Parts) → parts bound d ≡ ok x left
-        → (b : List ℕ) (s : State) → BytesOf (netIn x) b s → (list : List ℕ) (n : ℕ)
-        → Counts (netIn x) s list n (countReply d b list n)
-    each left x e b s bytes list n =
+    each : (left : List ℕ) (x : Parts) → parts bound d ≡ ok x left → (list : List ℕ) (n : ℕ) → (description : List ℕ)
+        × ((b : List ℕ) (s : State) (bytes : BytesOf (netIn x) b s)
+        → Counts (netIn x) s list n (bytes .edition) description (countReply d b list n))
+    each left x e list n =
         let net : Net = netIn x in
         let later : Net = recounted net list n in
-        let description : List ℕ = netBytes (netFrom (recountedParts x list n)) in
-        let back = read-back d net (rw e) b s bytes in
-        record {
-          pair = λ t. both description (saved later t);
-          is =
-              rw (e, back .1)
-              (sym (counted-alike net (back .2) (good d left x e .homes) list n (λ t. both description (saved later t))
-              (λ t u a. ap (both description) (saved-alike later a))));
-          leaves = λ t u.
-              let found = count-yes net s list n t u in
-              let count = found .0 in
-              let loose = loose-list net list (count .loose) in
+        let description : List ℕ = netBytes (netFrom (recountedParts x list n)) in (
+          description,
+          λ b s bytes.
+              let back = read-back d net (rw e) b bytes in
+              let edition : Edition = bytes .edition in
               record {
-                net-is =
-                    ap (λ (r : Result Parts). read r >>= λ y. value (netIn y)) (parts-recounted d left x e list n loose (count .room) (count .range))
-                    ∙ ap (λ (groups : Groups). value (withGroups net groups)) (recounted-view d left x e list n loose (count .room));
-                state-is = record { are = refl; fit = rw (found .1) (fit-count net (good d left x e) list n count (bytes .fit)) };
-              };
-        }
+                is =
+                    rw (e, back .1)
+                    (sym (counted-alike net (back .2) (good d left x e .homes) list n (λ t. both description (saved edition later t))
+                    (λ t u a. ap (both description) (saved-alike later edition a))));
+                leaves = λ t u.
+                    let found = count-yes net s list n t u in
+                    let count = found .0 in
+                    let loose = loose-list net list (count .loose) in
+                    record {
+                      net-is =
+                          ap (λ (r : Result Parts). read r >>= λ y. value (netIn y)) (parts-recounted d left x e list n loose (count .room) (count .range))
+                          ∙ ap (λ (groups : Groups). value (withGroups net groups)) (recounted-view d left x e list n loose (count .room));
+                      state-is = record { edition = edition; are = refl; fit = rw (found .1) (fit-count net (good d left x e) list n count (bytes .fit)) };
+                    };
+              },
+        )
 
 -- an accepted one leaves a description and a state for the theory's state
 counted-left : (d : List ℕ) (net : Net) → described d ≡ value net → (b : List ℕ) (s : State) → BytesOf net b s
     → (list : List ℕ) (n : ℕ) (after : Pair) → countReply d b list n ≡ value after
     → (t : State) × (headCounted net s list n ≡ value t) × PairOf (recounted net list n) after t
 counted-left d net says b s bytes list n after u =
-    let counts = counted-is d net says b s bytes list n in
-    let found = then-yes (counts .pair) (headCounted net s list n) after (sym (counts .is) ∙ u) in
+    let described = counted-is d net says list n in
+    let counts = described .1 b s bytes in
+    let found = then-yes (λ t. both (described .0) (saved (bytes .edition) (recounted net list n) t)) (headCounted net s list n) after (sym (counts .is) ∙ u) in
     let left = counts .leaves (found .0) (found .1) in
     (found .0, found .1, subst (λ (pair : Pair). PairOf (recounted net list n) pair (found .0)) (sym (found .2)) left)
+
+-- ---- conversions
+
+-- what fits the output is what the reply has
+fit-output : (room : ℕ) (r : Reply (List ℕ)) (b : List ℕ) → fitting room r ≡ value b → r ≡ value b
+fit-output room (value c) b e = question-yes (leb (length c) room) noRoom e .1
+fit-output room (refusal n) b e = clash (cc)
+
+-- a converted state is the same, in the edition
+pub converted-is : (d : List ℕ) (net : Net) → described d ≡ value net → (b : List ℕ) (s : State) → BytesOf net b s → (edition : Edition)
+    → convertedReply edition d b ≡ value (saved edition net s)
+unfolding convertedReply
+converted-is d net says b s bytes edition =
+    let back = read-back d net says b bytes in
+    rw (says, back .1) (ap value (sym (saved-alike net edition (back .2))))
+
+converted-left : (d : List ℕ) (net : Net) → described d ≡ value net → (b : List ℕ) (s : State) → BytesOf net b s → (number room : ℕ) (later : Pair)
+    → onBytes d .converted (both d b) number room ≡ value later → PairOf net later s
+converted-left d net says b s bytes number room later u = go (editionNumbered number) u
+  where
+    go : (r : Reply Edition) → (r >>= λ edition. fitting room (convertedReply edition d b) >>= λ after. value (both d after)) ≡ value later → PairOf net later s
+    go (refusal n) e = clash (cc)
+    go (value edition) e =
+        let found = then-yes (both d) (fitting room (convertedReply edition d b)) later e in
+        let is = sym (fit-output room (convertedReply edition d b) (found .0) (found .1)) ∙ converted-is d net says b s bytes edition in
+        let same : found .0 ≡ saved edition net s = cc in
+        rw (found .2) record { net-is = says; state-is = record { edition = edition; are = same; fit = bytes .fit } }
 
 -- ---- at any state
 
 module _ (d : List ℕ) (net : Net) (says : described d ≡ value net) (b : List ℕ) (s : State) (r : stateIn net b ≡ value s) where
   bytes : BytesOf net b s
-  bytes = read-are d net says b s r
+  bytes = state-are d net says b r
 
   net-good : Good net
   net-good = fine-net d net says .good
@@ -164,13 +200,13 @@ module _ (d : List ℕ) (net : Net) (says : described d ≡ value net) (b : List
   state-recorded : (number : ℕ) (after : List ℕ) → recordReply d b number ≡ value after
       → (t : State) × (stateIn net after ≡ value t) × Leaves net s number t
   state-recorded number after u =
-      let left = then-yes (saved net) (recorded net s number) after (sym (recorded-is d net says b s bytes number) ∙ u) in
+      let left = then-yes (saved (bytes .edition) net) (recorded net s number) after (sym (recorded-is d net says b s bytes number) ∙ u) in
       let found = record-yes net s number (left .0) (left .1) in
-      let back = read-back d net says after (left .0) (record { are = left .2; fit = recorded-fit net number (bytes .fit) (left .1) }) in
+      let back = read-back d net says after (record { edition = bytes .edition; are = left .2; fit = recorded-fit net number (bytes .fit) (left .1) }) in
       let alike : Alike net (back .0) (next net s (found .0))
       = subst (λ (z : State). Alike net (back .0) z) (found .2) (alike-sym net (back .2)) in (
         back .0,
-        back .1,
+        state-alone net after (back .1),
         record {
           event = found .0;
           numbered = found .1 .index;
@@ -190,13 +226,13 @@ module _ (d : List ℕ) (net : Net) (says : described d ≡ value net) (b : List
       let left = counted-left d net says b s bytes list n after u in
       let found = count-yes net s list n (left .0) (left .1) in
       let later : Net = recounted net list n in
-      let back = read-back (after .description) later (left .2 .net-is) (after .state) (left .0) (left .2 .state-is) in
+      let back = read-back (after .description) later (left .2 .net-is) (after .state) (left .2 .state-is) in
       let alike : Alike later (back .0) (afterCount net s list n)
       = subst (λ (z : State). Alike later (back .0) z) (found .1) (alike-sym later (back .2)) in
       record {
         net-after = left .2 .net-is;
         state = back .0;
-        state-after = back .1;
+        state-after = state-alone later (after .state) (back .1);
         counted = alike;
         consistent = λ m. Iff·trans (within-iff later alike m) (within-count net net-good s list n (found .0 .set) state-fits (found .0 .enough) m);
       }
@@ -204,9 +240,9 @@ module _ (d : List ℕ) (net : Net) (says : described d ≡ value net) (b : List
   state-miscounted : (list : List ℕ) (n described room : ℕ) → looseSet net list ≡ true
       → (bothAnswer described room (countReply d b list n) ≡ WroteBoth.Refused 15) ↔ ((bound < n) ⊎ (Countable net (Within net s) list n → ⊥))
   state-miscounted list n described room loose =
-      let counts = counted-is d net says b s bytes list n in
+      let counts = counted-is d net says list n .1 b s bytes in
       Iff·trans (rooms-iff (countReply d b list n) described room 15 (λ e. omega arith))
-      (rw (counts .is) (Iff·trans (then-no (counts .pair) (headCounted net s list n) 15) (miscounted-iff net net-good s state-fits list n loose)))
+      (rw (counts .is) (Iff·trans (then-no _ (headCounted net s list n) 15) (miscounted-iff net net-good s state-fits list n loose)))
 
   pub state-on-bytes : StateOnBytes d net b s
   state-on-bytes =
@@ -241,12 +277,14 @@ module _ (d : List ℕ) (net : Net) (says : described d ≡ value net) where
   unfolding freshReply
   ties =
       record {
-        begins = record { net-is = says; state-is = record { are = rw says; fit = fit-fresh net (begun .good) (begun .counts) } };
+        begins = record { net-is = says; state-is = record { edition = First; are = rw says; fit = fit-fresh net (begun .good) (begun .counts) } };
         records = λ pair groups s tied. record-tied (pair .description) (withGroups net groups) (tied .net-is) (pair .state) s (tied .state-is);
         judges = λ pair groups s tied. judged-is (pair .description) (withGroups net groups) (tied .net-is) (pair .state) s (tied .state-is);
         counts = λ pair groups s tied list n described room later u.
             counted-left (pair .description) (withGroups net groups) (tied .net-is) (pair .state) s (tied .state-is) list n later
             (both-fit described room (countReply (pair .description) (pair .state) list n) later u);
+        converts = λ pair groups s tied number room later u.
+            converted-left (pair .description) (withGroups net groups) (tied .net-is) (pair .state) s (tied .state-is) number room later u;
         restores = λ pair now groups s tied there. record {
           state = withState now (pair .state);
           read = refl;
@@ -262,7 +300,9 @@ module _ (d : List ℕ) (net : Net) (says : described d ≡ value net) where
     now = withGroups net (kept .groups)
 
     found : (s : State) × (stateIn now (keptState d list) ≡ value s) × Alike now (kept .state) s
-    found = read-back (keptDescription d list) now (kept .tied .net-is) (keptState d list) (kept .state) (kept .tied .state-is)
+    found =
+        let back = read-back (keptDescription d list) now (kept .tied .net-is) (keptState d list) (kept .tied .state-is) in
+        (back .0, state-alone now (keptState d list) (back .1), back .2)
 
     list-demand-2 : (now : Net) × (described (keptDescription d list) ≡ value now)
         × (s : State) × (stateIn now (keptState d list) ≡ value s) × Demand2 net (host d list .deeds) now s

@@ -1,4 +1,4 @@
--- The ten proved cases of 01 ("The pool of three"), and one of a head count (02, (i)), over the definitions that the contracts cite.
+-- The ten proved cases of 01 ("The pool of three"), one of a head count (02, (i)), and one of both editions (02, (vi)), over the definitions that the contracts cite.
 use Prim.Native.Nat.{ℕ}
 use mathlib.Core.Path.{_≡_, refl}
 use mathlib.Core.List.{List, [], _∷_, map}
@@ -11,7 +11,7 @@ use Rattle.theory.specs.Recording.{inRange, unplaced, known}
 use Rattle.theory.specs.Judging.{limitSum, change, heaviest, amount, top, holds}
 use Rattle.theory.specs.Replies.{Reply, value, refusal}
 use Rattle.theory.specs.Answers.{ask, Verdict, allow, hold, highest, recorded, judged, eachLoose, headCounted}
-use Rattle.theory.specs.Calls.{recording, counting, begin, call, standingFrom, standing}
+use Rattle.theory.specs.Calls.{recording, counting, converting, begin, call, standingFrom, standing}
 use Rattle.numbers.specs.Number.{form, groups}
 use Rattle.numbers.specs.Number as Stored
 use Rattle.numbers.specs.Signed.{stored, signed}
@@ -30,9 +30,9 @@ use Rattle.description.specs.Grammar.{table, head, limitsToEnd, parts, netFrom}
 use Rattle.description.specs.Writing.{netBytes}
 use Rattle.description.proofs.Examples.{poolBytes}
 use Rattle.states.specs.States as States
-use Rattle.states.specs.States.{countedValues, saved, stateFrom, state}
-use Rattle.states.specs.States.Writing.{valuesBytes, stateBytes}
-use Rattle.observer.specs.Bytes.{freshReply, recordReply, judgeReply, knownReply, countReply}
+use Rattle.states.specs.States.{countedValues, pair, pairs, sparseEstimates, savedIn, saved, remaindersFit, stateFrom, state, wholeState}
+use Rattle.states.specs.States.Writing.{valuesBytes, pairsBytes, stateBytes}
+use Rattle.observer.specs.Bytes.{freshReply, recordReply, judgeReply, knownReply, countReply, convertedReply}
 use Rattle.promises.specs.Lists.{host, keptState}
 
 -- the state's bytes after these events are recorded, one after the other; each state takes seven bytes
@@ -78,7 +78,7 @@ pub cases-hold : map computed cases ≡ map expected cases
 unfolding cases poolBytes form groups stored number Stored.number Stored.front Stored.before Stored.small many end signed
     freshReply recordReply judgeReply knownReply standing standingFrom begin call
     place innerGroups members memberList group outermost entries row risingPlace filled arc event signedWithin term limit head limitsToEnd parts
-    shared shareFits hasPlace States.value countedValues saved stateFrom state valuesBytes stateBytes joined
+    shared shareFits hasPlace States.value countedValues saved savedIn stateFrom state wholeState valuesBytes stateBytes joined
     ask recorded judged highest holds fresh nonePlaced settled certain onePlace share less inner possible raises raise own direct sum every next moved inRange
     change sumℤ heaviest heaviestPlace top limitSum amount known unplaced gathered among inside
 cases-hold = refl
@@ -105,8 +105,27 @@ pub count-holds : host looseBytes (recording 1 6 ∷ counting (3 ∷ 2 ∷ []) 4
 unfolding looseBytes countedPair form groups number Stored.number Stored.front Stored.before Stored.small many end
     freshReply recordReply countReply standing standingFrom begin call
     place innerGroups members memberList group outermost entries row risingPlace filled arc event head limitsToEnd parts
-    shared shareFits hasPlace States.value countedValues saved stateFrom state valuesBytes stateBytes joined
+    shared shareFits hasPlace States.value countedValues saved savedIn stateFrom state wholeState valuesBytes stateBytes joined
     ask recorded fresh nonePlaced settled certain onePlace share less inner possible raises raise own direct sum every next moved inRange
     gathered among inside headCounted eachLoose names listedSum withNewest afterCount grouped rehomed
     table netFrom netBytes memberBytes headBytes groupBytes placeBytes listLength rowBytes eventBytes
 count-holds = refl
+
+-- ---- both editions of a state (02, (vi))
+
+-- after event 1 the pool has a token in place 2, and two are unplaced; with exactly the room that it needs, the state is converted to edition 2,
+-- event 1 is recorded in that edition, and the state is converted back
+pub convert-holds : map (λ list. keptState poolBytes list)
+    ((recording 1 7 ∷ converting 2 7 ∷ []) ∷ (recording 1 7 ∷ converting 2 7 ∷ recording 1 7 ∷ []) ∷ (recording 1 7 ∷ converting 2 7 ∷ recording 1 7 ∷ converting 1 7 ∷ []) ∷ [])
+    ≡ (0x02 ∷ 0x03 ∷ 0x01 ∷ 0x02 ∷ 0x01 ∷ 0x01 ∷ 0x02 ∷ [])
+    ∷ (0x02 ∷ 0x03 ∷ 0x01 ∷ 0x02 ∷ 0x02 ∷ 0x01 ∷ 0x01 ∷ [])
+    ∷ (0x01 ∷ 0x03 ∷ 0x00 ∷ 0x02 ∷ 0x00 ∷ 0x01 ∷ 0x01 ∷ [])
+    ∷ []
+unfolding poolBytes form groups number Stored.number Stored.front Stored.before Stored.small many end signed
+    freshReply recordReply convertedReply standing standingFrom begin call
+    place innerGroups members memberList group outermost entries row risingPlace filled arc event signedWithin term limit head limitsToEnd parts
+    shared shareFits hasPlace States.value countedValues saved savedIn stateFrom state wholeState valuesBytes stateBytes joined
+    sparseEstimates pairs pair remaindersFit pairsBytes rowBytes
+    ask recorded fresh nonePlaced settled certain onePlace share less inner possible raises raise own direct sum every next moved inRange
+    gathered among inside
+convert-holds = refl

@@ -7,6 +7,7 @@ pub mod Meaning
 pub mod RoundTrips
 pub mod Longest
 pub mod Older
+pub mod Editions
 pub mod Refusals
 pub mod Promises
 pub mod Examples

@@ -9,7 +9,7 @@ use lib.IntN.{pos, natAbs}
 use lib.ListN.{length, replicate}
 use Rattle.theory.specs.Sums.{every, direct, sum, sumℤ}
 use Rattle.theory.specs.Nets as Theory
-use Rattle.theory.specs.Nets.{inner, own, less}
+use Rattle.theory.specs.Nets.{inside, among, inner, own, gathered, less}
 use Rattle.theory.proofs.Nets.{gathered-step}
 use Rattle.theory.specs.Recording.{State, bound, raise, raises, moved, possible, next, inRange}
 use Rattle.theory.specs.Placement.{heaviestPlace}
@@ -24,25 +24,27 @@ use Rattle.numbers.specs.Signed.{signed}
 use Rattle.codec.specs.Reader.{number, many, end, read}
 use Rattle.codec.specs.Joined.{joined}
 use Rattle.codec.proofs.Inverse.{read-ok}
+use Rattle.net.specs.declared.Edition.the-variants.{Second}
 use Rattle.net.specs.declared.Net.{Net}
 use Rattle.net.specs.Bounds.{mostPlaces, mostEvents, mostGroups, mostLimits, mostTake, mostCeiling, mostWeight}
 use Rattle.net.specs.Check.{shared, shareFits, hasPlace}
 use Rattle.members.specs.Members.{place, innerGroups, members, memberList, group, outermost}
 use Rattle.codec.specs.Places.{risingPlace}
 use Rattle.rows.specs.Rows.{entries, row, arc, event, signedWithin, term, limit, filled}
+use Rattle.rows.specs.Rows.Writing.{rowBytes}
 use Rattle.description.specs.Grammar.{Parts, head, limitsToEnd, parts, netFrom, description}
 use Rattle.description.specs.Read.{longestDescription, descriptionRead}
 use Rattle.description.proofs.Longest.{longest-description}
 use Rattle.states.specs.States as States
-use Rattle.states.specs.States.{edition, countedValues, saved, stateFrom, state}
-use Rattle.states.specs.States.Writing.{valuesBytes}
+use Rattle.states.specs.States.{countedValues, pair, pairs, sparseEstimates, savedIn, saved, remaindersFit, stateFrom, state, wholeState}
+use Rattle.states.specs.States.Writing.{valuesBytes, pairsBytes, estimatesBytes}
 use Rattle.states.specs.States.Nets.{longestState, restored}
 use Rattle.states.proofs.Longest.{longest-state}
 use Rattle.states.proofs.Nets.{fit-next}
 use Rattle.limits.specs.Limits.{largestSum}
 use Rattle.observer.specs.Bytes.{netIn, described, stateIn}
 use Rattle.promises.specs.Promises.{Longest, LargestSum}
-use Rattle.promises.proofs.Described.{of-described, fine-net, read-are}
+use Rattle.promises.proofs.Described.{of-described, fine-net, with-edition, state-are}
 use Rattle.promises.proofs.Meaning.{one-meaning}
 
 -- ---- the bounds
@@ -54,8 +56,8 @@ state-bounded : (d : List ℕ) (net : Theory.Net) → described d ≡ value net
     → (b : List ℕ) (s : State) → stateIn net b ≡ value s → length b ≤ longestState
 state-bounded d net says b s r =
     let of = fine-net d net says in
-    let was = read-ok (restored net b) r in
-    longest-state net (of .places) (of .groups) b (was .0) s (was .1)
+    let was = read-ok (restored net b) (with-edition net b r .1) in
+    longest-state net (of .places) (of .groups) b (was .0) _ (was .1)
 
 -- ---- and how large a limit's sum
 
@@ -64,7 +66,7 @@ sum-bounded : (d : List ℕ) (net : Theory.Net) → described d ≡ value net �
 sum-bounded d net says b s r number e asked l m =
     let of = fine-net d net says in
     let event = ask-event net s number e asked in
-    let after = fit-next net e (read-are d net says b s r .fit) (event .range) in
+    let after = fit-next net e (state-are d net says b r .fit) (event .range) in
     let remain : (i : ℕ) → i < net .groups .number → next net s e .high (suc i) ≤ bound
     = λ i k. omega (arith, after .numbers i k, gathered-step (net .groups) (of .good .outward) (next net s e .high) i k) in
     let near = top-near net (next net s e) l {far = mostWeight} {most = bound} (λ p k. of .weights l p m k) (after .estimates)
@@ -83,20 +85,21 @@ fullDescription =
     ++ flatMap (λ bytes. bytes) (replicate mostEvents event)
     ++ flatMap (λ bytes. bytes) (replicate mostLimits limit)
 
--- of that net, and values of four bytes
+-- of that net, in edition 2, and values of four bytes
 fullState : List ℕ
-fullState = form edition ++ valuesBytes mostPlaces (λ p. bound) ++ valuesBytes mostGroups (λ i. bound)
+fullState = estimatesBytes Second mostPlaces (λ p. bound) ++ valuesBytes mostGroups (λ i. bound)
 
 full-lengths : (length fullDescription ≡ longestDescription) × (length fullState ≡ longestState)
-unfolding fullDescription fullState valuesBytes joined flatMap form groups
+unfolding fullDescription fullState valuesBytes pairsBytes rowBytes sum joined flatMap form groups
 full-lengths = (refl, refl)
 
 -- both are read, and with each place and each group at the bound an event that changes nothing meets the largest sum
 full-read : (read (parts bound fullDescription) >>= λ x. stateIn (netIn x) fullState >>= λ s. ask (netIn x) s 1 >>= λ e.
     question (ltb 0 (netIn x .rules .limits)) 3 >>= λ _. value (top (netIn x) (next (netIn x) s e) 0)) ≡ value (pos largestSum)
-unfolding fullDescription fullState valuesBytes joined flatMap form groups number Stored.number Stored.front Stored.before
+unfolding fullDescription fullState valuesBytes pairsBytes rowBytes joined flatMap form groups number Stored.number Stored.front Stored.before
     Stored.small parts head limitsToEnd many end outermost memberList members innerGroups place group event limit entries row
-    risingPlace arc term signedWithin signed shared shareFits hasPlace every direct sum inner state stateFrom saved countedValues States.value
+    risingPlace arc term signedWithin signed shared shareFits hasPlace every direct sum inner wholeState state stateFrom saved savedIn countedValues States.value
+    sparseEstimates pairs pair remaindersFit gathered among inside
     ask possible raises raise own inRange next moved less top limitSum sumℤ heaviest heaviestPlace amount filled
 full-read = refl
 

@@ -23,6 +23,7 @@ use Rattle.promises.proofs.Meaning.{one-meaning}
 use Rattle.promises.proofs.RoundTrips.{round-trips}
 use Rattle.promises.proofs.Longest.{longest, largest-sum}
 use Rattle.promises.proofs.Older.{older, as-before}
+use Rattle.promises.proofs.Editions.{converts, same-answers, same-on-values}
 use Rattle.promises.proofs.Refusals.{refusals-on-bytes, refusals-on-values}
 
 pub demand-1 : Demand1
@@ -114,6 +115,9 @@ promises =
       states-on-values = state-on-values;
       older = older;
       as-before = as-before;
+      editions = converts;
+      same-answers = λ d net says b c s. same-answers d net says s b c;
+      same-on-values = same-on-values;
       determined = determined;
       meaning = one-meaning;
       round-trips = round-trips;

@@ -32,3 +32,11 @@ pub fn count(d: &[u8], s: &[u8], places: &[u8], n: u32, described: &mut [u8], ou
 pub fn older(d: &[u8], s: &[u8], out: &mut [u8]) -> i64 {
     number(yarrowbeam::older(d, s, out), |count| count as i64)
 }
+
+pub fn dense(d: &[u8], s: &[u8], out: &mut [u8]) -> i64 {
+    number(yarrowbeam::dense(d, s, out), |count| count as i64)
+}
+
+pub fn sparse(d: &[u8], s: &[u8], out: &mut [u8]) -> i64 {
+    number(yarrowbeam::sparse(d, s, out), |count| count as i64)
+}

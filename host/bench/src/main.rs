@@ -14,7 +14,7 @@ use reference::BOUND;
 use std::hint::black_box;
 use std::time::Instant;
 
-/// One observer's six calls.
+/// One observer's eight calls.
 struct Observer {
     name: &'static str,
     fresh: fn(&[u8], &mut [u8]) -> i64,
@@ -22,8 +22,13 @@ struct Observer {
     judge: fn(&[u8], &[u8], u32) -> i64,
     known: fn(&[u8], &[u8]) -> i64,
     count: fn(&[u8], &[u8], &[u8], u32, &mut [u8], &mut [u8]) -> i64,
-    older: fn(&[u8], &[u8], &mut [u8]) -> i64,
+    older: Convert,
+    dense: Convert,
+    sparse: Convert,
 }
+
+/// A call that writes a state again.
+type Convert = fn(&[u8], &[u8], &mut [u8]) -> i64;
 
 macro_rules! observer {
     ($name:ident) => {
@@ -35,6 +40,8 @@ macro_rules! observer {
             known: $name::known,
             count: $name::count,
             older: $name::older,
+            dense: $name::dense,
+            sparse: $name::sparse,
         }
     };
 }
@@ -59,28 +66,37 @@ struct Asked<'a> {
 }
 
 /// All that an observer answers and writes; behind each room stand bytes that nobody writes.
-fn answers(observer: &Observer, asked: &Asked) -> ([i64; 6], [[u8; ROOM]; 4], Vec<u8>) {
+fn answers(observer: &Observer, asked: &Asked) -> ([i64; 8], [[u8; ROOM]; 6], Vec<u8>) {
     let &Asked { d, s, event, places, tokens, described_room, room } = asked;
-    let (mut begun, mut after, mut counted, mut same) = ([0x5A; ROOM], [0x5A; ROOM], [0x5A; ROOM], [0x5A; ROOM]);
+    let mut written = [[0x5A; ROOM]; 6];
+    let [begun, after, counted, older, dense, sparse] = written.each_mut().map(|out| &mut out[..room]);
     let mut described = vec![0x5A; described_room + 8];
     let numbers = [
-        (observer.fresh)(d, &mut begun[..room]),
-        (observer.record)(d, s, event, &mut after[..room]),
+        (observer.fresh)(d, begun),
+        (observer.record)(d, s, event, after),
         (observer.judge)(d, s, event),
         (observer.known)(d, s),
-        (observer.count)(d, s, places, tokens, &mut described[..described_room], &mut counted[..room]),
-        (observer.older)(d, s, &mut same[..room]),
+        (observer.count)(d, s, places, tokens, &mut described[..described_room], counted),
+        (observer.older)(d, s, older),
+        (observer.dense)(d, s, dense),
+        (observer.sparse)(d, s, sparse),
     ];
-    (numbers, [begun, after, counted, same], described)
+    (numbers, written, described)
 }
 
-/// What the inputs met: each refusal of recording, of counting and of writing for older observers by its number, or 0 for bytes
-/// written; allowances, holds and yeses; fresh states with tokens at a place, and head counts of one place that were written.
+/// How often a call met each refusal by its number, or 0 for bytes written.
+type Refusals = [u32; 19];
+
+/// What the inputs met: the refusals of calls; accepted states of edition 2; allowances, holds and yeses; fresh states with tokens at
+/// a place, and head counts of one place that were written.
 #[derive(Default)]
 struct Met {
-    recorded: [u32; 14],
-    counted: [u32; 17],
-    older: [u32; 18],
+    recorded: Refusals,
+    counted: Refusals,
+    older: Refusals,
+    dense: Refusals,
+    sparse: Refusals,
+    second: u32,
     allowed: u32,
     held: u32,
     known: u32,
@@ -100,10 +116,13 @@ fn compare(asked: &Asked, met: &mut Met) {
             observer.name
         );
     }
-    let [fresh, recorded, judged, known, counted, older] = first.0;
+    let [fresh, recorded, judged, known, counted, older, dense, sparse] = first.0;
     met.recorded[usize::try_from(-recorded).unwrap_or(0)] += 1;
     met.counted[usize::try_from(-counted).unwrap_or(0)] += 1;
     met.older[usize::try_from(-older).unwrap_or(0)] += 1;
+    met.dense[usize::try_from(-dense).unwrap_or(0)] += 1;
+    met.sparse[usize::try_from(-sparse).unwrap_or(0)] += 1;
+    met.second += u32::from(known >= 0 && asked.s[0] == 2);
     met.allowed += u32::from(judged == 0);
     met.held += u32::from(judged > 0);
     met.known += u32::from(known == 1);
@@ -137,16 +156,19 @@ fn alike<'a>(cases: impl Iterator<Item = &'a Case>) {
     let mut met = Met::default();
     let mut numbers = Numbers(0x0123_4567_89AB_CDEF);
     for case in cases {
-        let Case { d, s, places, tokens, .. } = case;
-        for event in 0..=65 {
-            compare(&Asked { d, s, event, places, tokens: *tokens, described_room: LONGEST, room: ROOM }, &mut met);
+        let Case { d, places, tokens, .. } = case;
+        let states = [case.s.clone(), nets::sparse(case).s];
+        for s in &states {
+            for event in 0..=65 {
+                compare(&Asked { d, s, event, places, tokens: *tokens, described_room: LONGEST, room: ROOM }, &mut met);
+            }
         }
         // Faults near the start of a description are met first, so those of its members get a share of their own.
         for i in 0..if case.d.len() < 1_000 { 100_000 } else { 8_000 } {
             let split = if i % 2 == 0 { case.d.len() } else { case.d.len().min(300) };
             let mut d = damaged(&case.d[..split], &mut numbers);
             d.extend(&case.d[split..]);
-            let s = damaged(&case.s, &mut numbers);
+            let s = damaged(&states[i / 2 % 2], &mut numbers);
             let places = damaged(&case.places, &mut numbers);
             let asked = Asked {
                 d: &d,
@@ -175,10 +197,13 @@ fn alike<'a>(cases: impl Iterator<Item = &'a Case>) {
     };
     println!("All three observers answered and wrote alike on {} inputs.", met.recorded.iter().sum::<u32>());
     println!("Judging allowed {} and held {}, and {} states were known.", met.allowed, met.held, met.known);
+    println!("Of the accepted states {} were of edition 2.", met.second);
     println!("Fresh had tokens at a place in {}, and {} head counts were of one place.", met.settled, met.counted_one);
     println!("Recording wrote for {}; its refusals, and how often: {}.", met.recorded[0], refusals(&met.recorded));
     println!("Counting wrote for {}; its refusals, and how often: {}.", met.counted[0], refusals(&met.counted));
-    println!("Older observers got {} states; the refusals, and how often: {}.\n", met.older[0], refusals(&met.older));
+    println!("Older observers got {} states; the refusals, and how often: {}.", met.older[0], refusals(&met.older));
+    println!("Edition 1 was written of {} states; the refusals, and how often: {}.", met.dense[0], refusals(&met.dense));
+    println!("Edition 2 was written of {} states; the refusals, and how often: {}.\n", met.sparse[0], refusals(&met.sparse));
 }
 
 // ---- time
@@ -240,11 +265,22 @@ fn count<'a>(observer: &'a Observer, case: &'a Case) -> Call<'a> {
     })
 }
 
-/// The state of a case, written for older observers by one observer.
+/// The state of a case, written again.
+fn converted(convert: Convert, case: &Case) -> Call<'_> {
+    let mut again = [0; ROOM];
+    Box::new(move || convert(black_box(&case.d), black_box(&case.s), black_box(&mut again)))
+}
+
 fn older<'a>(observer: &'a Observer, case: &'a Case) -> Call<'a> {
-    let mut same = [0; ROOM];
-    let Case { d, s, .. } = case;
-    Box::new(move || (observer.older)(black_box(d), black_box(s), black_box(&mut same)))
+    converted(observer.older, case)
+}
+
+fn dense<'a>(observer: &'a Observer, case: &'a Case) -> Call<'a> {
+    converted(observer.dense, case)
+}
+
+fn sparse<'a>(observer: &'a Observer, case: &'a Case) -> Call<'a> {
+    converted(observer.sparse, case)
 }
 
 /// The times of the three observers, and those of the host beside the others'.
@@ -269,7 +305,8 @@ fn time(cases: &[Case]) {
 /// A call by its name, and the cases of it.
 type Timed<'a> = (&'a str, OnCase, &'a [Case]);
 
-/// A call, and beside it one that is measured by the same turns; a column of its own says how much of that one it takes.
+/// A call, and beside it one that is measured by the same turns; a column of its own says how much of that one it takes. The column
+/// of sizes has that of each one's case, and a blank where they are the same.
 fn time_beside((name, call, cases): Timed, (other, beside, others): Timed, (column, size): (&str, fn(&Case) -> usize)) {
     println!("| net | bytes | {column} | call | host ns | strong ns | plain ns | host / strong | host / plain | host's {name} / {other} |");
     println!("|---|--:|--:|---|--:|--:|--:|--:|--:|--:|");
@@ -277,8 +314,10 @@ fn time_beside((name, call, cases): Timed, (other, beside, others): Timed, (colu
         let mut both: Vec<Call> = OBSERVERS.iter().map(|observer| call(observer, case)).collect();
         both.extend(OBSERVERS.iter().map(|observer| beside(observer, other_case)));
         let ns = times(&mut both);
-        println!("| {} | {} | {} | {other} | {} | |", case.name, case.d.len(), size(case), row(&ns[3..]));
-        println!("|  |  |  | {name} | {} | {:.2} |", row(&ns[..3]), ns[0] / ns[3]);
+        let (first, second) = (size(other_case), size(case));
+        let differing = if first == second { String::new() } else { second.to_string() };
+        println!("| {} | {} | {first} | {other} | {} | |", case.name, case.d.len(), row(&ns[3..]));
+        println!("|  |  | {differing} | {name} | {} | {:.2} |", row(&ns[..3]), ns[0] / ns[3]);
     }
     println!();
 }
@@ -304,14 +343,24 @@ fn growth(cases: &[Case]) {
 
 // ---- stack
 
-/// On a net, and for head counts on that net with loose places.
-fn stacks(case: &Case, loosened: &Case) {
+/// On a net, for head counts on that net with loose places, and on the net with its state in edition 2.
+fn stacks(case: &Case, loosened: &Case, second: &Case) {
+    let on: [(&str, OnCase, &Case); 9] = [
+        ("fresh", fresh, case),
+        ("record", record, case),
+        ("judge", judge, case),
+        ("count", count, loosened),
+        ("older", older, case),
+        ("sparse", sparse, case),
+        ("dense", dense, second),
+        ("record in edition 2", record, second),
+        ("judge in edition 2", judge, second),
+    ];
     let nothing = stack::touched(&mut || ());
-    println!("| stack, bytes | fresh | record | judge | count | older |");
-    println!("|---|--:|--:|--:|--:|--:|");
+    println!("| stack, bytes | {} |", on.map(|(name, _, _)| name).join(" | "));
+    println!("|---|{}", "--:|".repeat(on.len()));
     for observer in &OBSERVERS {
-        let on: [(OnCase, &Case); 5] = [(fresh, case), (record, case), (judge, case), (count, loosened), (older, case)];
-        let touched = on.map(|(call, case)| {
+        let touched = on.map(|(_, call, case)| {
             let mut call = call(observer, case);
             stack::touched(&mut || {
                 black_box(call());
@@ -326,15 +375,19 @@ fn main() {
     if std::env::args().any(|word| word == "journal") {
         return journal::speeds(&nets::rounds());
     }
-    let (cases, held, loosened) = (nets::all(), nets::held(), nets::loosened());
+    let (cases, held, loosened, [first, second]) = (nets::all(), nets::held(), nets::loosened(), nets::editions());
     alike(cases.iter().chain(&held).chain(&loosened));
     time(&cases);
     // the fourth number of a description; those before it have a byte each too
     let limits = |case: &Case| usize::from(case.d[3]);
     time_beside(("held", judge, &held), ("allowed", judge, &cases), ("limits", limits));
     time_beside(("count", count, &loosened), ("fresh", fresh, &loosened), ("places", |case| case.places.len()));
-    time_beside(("older", older, &cases), ("fresh", fresh, &cases), ("state", |case| case.s.len()));
+    let state = |case: &Case| case.s.len();
+    time_beside(("older", older, &cases), ("fresh", fresh, &cases), ("state", state));
+    time_beside(("record in edition 2", record, &second), ("record in edition 1", record, &first), ("state", state));
+    time_beside(("judge in edition 2", judge, &second), ("judge in edition 1", judge, &first), ("state", state));
+    time_beside(("dense", dense, &second), ("sparse", sparse, &first), ("state", state));
     growth(&nets::growing());
-    stacks(&cases[2], &loosened[2]);
+    stacks(&cases[2], &loosened[2], &nets::sparse(&cases[2]));
     journal::speeds(&nets::rounds());
 }

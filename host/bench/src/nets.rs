@@ -2,7 +2,7 @@
 
 use crate::{plain, LONGEST, ROOM};
 use reference::description::{Group, Limit, Net};
-use reference::{State, BOUND, OLDER_BOUND, POOL};
+use reference::{Edition, State, BOUND, OLDER_BOUND, POOL};
 
 /// Numbers without a pattern, the same in every run (xorshift).
 pub struct Numbers(pub u64);
@@ -22,6 +22,7 @@ impl Numbers {
 
 /// A description, a state that fits it, and an event that is possible there, raises every limit's sum and is allowed all the
 /// same: judging it has the most to do. Where places are loose, a head count of them.
+#[derive(Clone)]
 pub struct Case {
     pub name: &'static str,
     pub d: Vec<u8>,
@@ -211,7 +212,24 @@ fn hold(case: Case) -> Case {
     Case { d, ..case }
 }
 
-/// A small net without a pattern, with loose places, uneven nesting and low ceilings, and a state that fits it; for comparing.
+/// The case with its state in edition 2.
+pub fn sparse(case: &Case) -> Case {
+    let mut s = vec![0; ROOM];
+    let size = plain::sparse(&case.d, &case.s, &mut s);
+    s.truncate(usize::try_from(size).unwrap());
+    Case { s, ..case.clone() }
+}
+
+/// The case with its fresh state, but for one token at each 16th place.
+fn mostly_empty(name: &'static str, case: &Case) -> Case {
+    let net = reference::read_description(&case.d).unwrap();
+    let mut state = reference::fresh(&net);
+    state.estimates.iter_mut().step_by(16).for_each(|estimate| *estimate = 1);
+    Case { name, s: reference::write_state(&net, &state), ..case.clone() }
+}
+
+/// A small net without a pattern, with loose places, uneven nesting and low ceilings, and a state of either edition, which fits it
+/// unless its unplaced numbers pass the bound; for comparing.
 pub fn small(numbers: &mut Numbers) -> (Vec<u8>, Vec<u8>) {
     let places = numbers.within(1, 6) as usize;
     let mut groups: Vec<Group> = Vec::new();
@@ -224,6 +242,7 @@ pub fn small(numbers: &mut Numbers) -> (Vec<u8>, Vec<u8>) {
         groups.push(Group { around, count: 0 });
     }
     let homes: Vec<usize> = (0..places).map(|_| numbers.within(0, groups.len() as u32) as usize).collect();
+    let remainders = [3, 3, 3, OLDER_BOUND, BOUND][numbers.within(0, 4) as usize];
     let mut gathered = |high: u32| {
         let mut whole: Vec<u32> =
             (1..=groups.len()).map(|g| if homes.contains(&g) { numbers.within(0, high) } else { 0 }).collect();
@@ -232,7 +251,7 @@ pub fn small(numbers: &mut Numbers) -> (Vec<u8>, Vec<u8>) {
         }
         whole
     };
-    let (counts, mut unplaced) = (gathered(3), gathered(3));
+    let (counts, mut unplaced) = (gathered(3), gathered(remainders));
     groups.iter_mut().zip(counts).for_each(|(group, count)| group.count = count);
     let mut row = |high: u32| -> Vec<u32> {
         (0..places).map(|_| if numbers.next() % 2 == 0 { 0 } else { numbers.within(0, high) }).collect()
@@ -255,7 +274,9 @@ pub fn small(numbers: &mut Numbers) -> (Vec<u8>, Vec<u8>) {
     }
     let (takes, gives) = rows.into_iter().unzip();
     let net = Net { homes, groups, takes, gives, limits };
-    (reference::write_description(&net), reference::write_state(&State { estimates, unplaced }))
+    let edition = if numbers.next() % 2 == 0 { Edition::First } else { Edition::Second };
+    let state = State { edition, estimates, unplaced };
+    (reference::write_description(&net), reference::write_state(&net, &state))
 }
 
 /// The largest net with more and more of its events.
@@ -268,15 +289,31 @@ pub fn all() -> Vec<Case> {
     let mut all = vec![Case { name: "the pool of three", d, s, event: 2, places: Vec::new(), tokens: 0 }];
     all.extend([&MIDDLE, &LARGEST, &ONE_BYTE, &ONE_PLACE].map(case));
     assert_eq!(all[2].d.len() + 32, LONGEST, "only its counts are not at their longest, so that older observers read its state");
-    for case in &all {
+    assert_allowed(&all);
+    all
+}
+
+fn assert_allowed(cases: &[Case]) {
+    for case in cases {
         assert_eq!(plain::judge(&case.d, &case.s, case.event), 0, "{}: every limit is weighed", case.name);
     }
-    all
 }
 
 /// The same nets for an event that is held.
 pub fn held() -> Vec<Case> {
     all().into_iter().map(hold).collect()
+}
+
+/// The pool of three, the middle and the largest net, the last two also with a state that is mostly empty; all in edition 1, and all in
+/// edition 2.
+pub fn editions() -> [Vec<Case>; 2] {
+    let [pool, middle, largest, ..] = <[Case; 5]>::try_from(all()).ok().unwrap();
+    let middle_empty = mostly_empty("middle, mostly empty", &middle);
+    let largest_empty = mostly_empty("largest, mostly empty", &largest);
+    let first = vec![pool, middle, middle_empty, largest, largest_empty];
+    assert_allowed(&first);
+    let second = first.iter().map(sparse).collect();
+    [first, second]
 }
 
 /// The same nets for head counts, each with the places of its last group loose; and one that is loose places and little else, of

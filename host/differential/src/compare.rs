@@ -1,8 +1,9 @@
 //! One case: every call through the library beside the reference.
 
+use crate::faults::Change;
 use crate::kinds::{count_after, count_edges_of, count_fresh, count_head_count, count_holding, count_older, count_sizes};
-use crate::kinds::{of, whens, Kind, Of, Room, AFTER_COUNT, AFTER_ONE, SHORT};
-use crate::older;
+use crate::kinds::{count_sparse, in_edition, in_edition_of, of, whens, Kind, Of, Room, AFTER_COUNT, AFTER_ONE, SHORT};
+use crate::{editions, older};
 use reference::{read_description, read_state, write_description, write_state, Net, State};
 use seeded::hex;
 use seeded::met::Met;
@@ -13,6 +14,8 @@ use yarrowbeam::{Refusal, LARGEST_DESCRIPTION, LARGEST_STATE};
 pub struct Case {
     pub description: Vec<u8>,
     pub state: Vec<u8>,
+    /// What was changed in the state, if it is that and nothing else.
+    pub change: Option<Change>,
     pub event: u32,
     /// The places of a head count, and how many tokens they hold.
     pub places: Vec<u8>,
@@ -60,11 +63,14 @@ struct Expected {
     known: Answer,
     count: Written<2>,
     older: Written<1>,
+    dense: Written<1>,
+    sparse: Written<1>,
     /// The net and the state, where both are read.
     read: Option<(Net, State)>,
 }
 
-fn expected(case: &Case, met: &mut Met<Of>) -> Expected {
+/// Or a refusal that is due to a change of the state, but not what the reference says.
+fn expected(case: &Case, met: &mut Met<Of>) -> Result<Expected, String> {
     let refused = |refusal| Expected {
         fresh: Err(refusal),
         record: Err(refusal),
@@ -72,30 +78,40 @@ fn expected(case: &Case, met: &mut Met<Of>) -> Expected {
         known: Answer::Refused(refusal),
         count: Err(refusal),
         older: Err(refusal),
+        dense: Err(refusal),
+        sparse: Err(refusal),
         read: None,
     };
     count_edges_of(&case.description, &case.state, met);
     let net = match read_description(&case.description) {
         Ok(net) => net,
-        Err(refusal) => return refused(refusal),
+        Err(refusal) => return Ok(refused(refusal)),
     };
     count_sizes(&net, met);
     met.count(of("description", Kind::Size(case.description.len(), "bytes")));
     let fresh = reference::fresh(&net);
     count_fresh(&net, &fresh, met);
-    let fresh = Ok([write_state(&fresh)]);
-    let state = match read_state(&net, &case.state) {
+    let fresh = Ok([write_state(&net, &fresh)]);
+    let read = read_state(&net, &case.state);
+    if let Some(Change { edition, what, name, refusal }) = case.change {
+        if let Some(refusal) = refusal.filter(|&refusal| read != Err(refusal)) {
+            return Err(format!("refusal {refusal} is due to a {what} with {name}, and the reference answers {read:?}"));
+        }
+        met.count(of(what, Kind::With(name)).when(in_edition(edition)));
+    }
+    let state = match read {
         Ok(state) => state,
-        Err(refusal) => return Expected { fresh, ..refused(refusal) },
+        Err(refusal) => return Ok(Expected { fresh, ..refused(refusal) }),
     };
-    met.count(of("state", Kind::Size(case.state.len(), "bytes")));
+    met.count(of("state", Kind::Size(case.state.len(), "bytes")).when(in_edition(state.edition)));
     count_head_count(&net, &state, &case.places, case.tokens, met);
     count_older(&net, &state, met);
+    count_sparse(&net, &state, met);
     count_after(&net, &state, case.event, met);
     count_holding(&net, &state, case.event, met);
-    Expected {
+    Ok(Expected {
         fresh,
-        record: reference::record(&net, &state, case.event).map(|after| [write_state(&after)]),
+        record: reference::record(&net, &state, case.event).map(|after| [write_state(&net, &after)]),
         judge: match reference::judge(&net, &state, case.event) {
             Ok(reference::Verdict::Allow) => Answer::Verdict(yarrowbeam::Verdict::Allow),
             Ok(reference::Verdict::Hold(limit)) => Answer::Verdict(yarrowbeam::Verdict::Hold(limit)),
@@ -103,10 +119,12 @@ fn expected(case: &Case, met: &mut Met<Of>) -> Expected {
         },
         known: Answer::Known(reference::known(&net, &state)),
         count: reference::count(&net, &state, &case.places, case.tokens)
-            .map(|(net, state)| [write_description(&net), write_state(&state)]),
+            .map(|(net, state)| [write_description(&net), write_state(&net, &state)]),
         older: reference::older(&state).map(|bytes| [bytes]),
+        dense: Ok([reference::dense(&state)]),
+        sparse: Ok([reference::sparse(&net, &state)]),
         read: Some((net, state)),
-    }
+    })
 }
 
 /// Bytes that are lent to a call, inside a larger array without a pattern, and a copy of all of it.
@@ -146,11 +164,12 @@ type Output = (&'static str, usize);
 
 /// Makes every call and compares its answer and all bytes with what the reference says; the first difference, in words.
 pub fn compare(case: &Case, numbers: &mut Numbers, met: &mut Met<Of>) -> Result<(), String> {
-    let expected = expected(case, met);
+    let expected = expected(case, met)?;
     let inputs = [&case.description, &case.state, &case.places].map(|bytes| Lent::new(bytes, numbers));
     let [d, s, places] = inputs.each_ref().map(Lent::bytes);
     let mut whens = expected.read.as_ref().map_or_else(Vec::new, |(net, state)| whens(net, state));
     whens.extend([(AFTER_COUNT, case.counted), (AFTER_ONE, case.counted_one)].iter().filter(|when| when.1).map(|when| when.0));
+    whens.extend(in_edition_of(s));
     let mut calls = Calls { inputs: &inputs, whens, numbers, met };
     let both = [("count's description", LARGEST_DESCRIPTION), ("count's state", LARGEST_STATE)];
     calls.writes("fresh", [("fresh", LARGEST_STATE)], expected.fresh, |[out]| {
@@ -167,7 +186,15 @@ pub fn compare(case: &Case, numbers: &mut Numbers, met: &mut Met<Of>) -> Result<
     calls.writes("older", [("older", LARGEST_STATE)], expected.older, |[out]| {
         yarrowbeam::older(d, s, out).map(|length| [length])
     })?;
-    expected.read.map_or(Ok(()), |(net, state)| older::compare(case, &net, &state))
+    calls.writes("dense", [("dense", LARGEST_STATE)], expected.dense, |[out]| {
+        yarrowbeam::dense(d, s, out).map(|length| [length])
+    })?;
+    calls.writes("sparse", [("sparse", LARGEST_STATE)], expected.sparse, |[out]| {
+        yarrowbeam::sparse(d, s, out).map(|length| [length])
+    })?;
+    let Some((net, state)) = expected.read else { return Ok(()) };
+    editions::compare(case, state.edition)?;
+    older::compare(case, &net, &state)
 }
 
 struct Calls<'a> {
@@ -179,6 +206,11 @@ struct Calls<'a> {
 }
 
 impl Calls<'_> {
+    fn count(&mut self, kind: Of) {
+        self.met.count(kind);
+        self.whens.iter().for_each(|when| self.met.count(kind.when(when)));
+    }
+
     /// A call has answered: is it what the reference says, and are the inputs as they were?
     fn answers(&mut self, call: &'static str, expected: &Answer, answered: Answer) -> Result<(), String> {
         if answered != *expected {
@@ -187,9 +219,7 @@ impl Calls<'_> {
         if !self.inputs.iter().all(|input| input.has(&[])) {
             return Err(format!("{call} changed its inputs"));
         }
-        let kind = of(call, expected.kind());
-        self.met.count(kind);
-        self.whens.iter().for_each(|when| self.met.count(kind.when(when)));
+        self.count(of(call, expected.kind()));
         Ok(())
     }
 
@@ -220,7 +250,7 @@ impl Calls<'_> {
         if expected.is_ok() {
             for i in 0..N {
                 self.met.count(of(outputs[i].0, Kind::Room(Room::of(rooms[i], lengths[i]))));
-                self.met.count(of(outputs[i].0, Kind::Size(lengths[i], "bytes")));
+                self.count(of(outputs[i].0, Kind::Size(lengths[i], "bytes")));
             }
             for (name, _) in SHORT.iter().filter(|(_, which)| short[..] == which[..]) {
                 self.met.count(of(call, Kind::With(name)));

@@ -1,7 +1,7 @@
 //! What head counts are asked for: lists of places, good or with a fault, and numbers of tokens around the bounds.
 
 use reference::{Net, State, BOUND, OLDER_BOUND};
-use seeded::nets::LONGEST;
+use seeded::nets::FOUR_BYTES;
 use seeded::numbers::Numbers;
 
 /// Places of the net, one in a byte.
@@ -53,7 +53,7 @@ pub fn tokens(state: &State, places: &[u8], numbers: &mut Numbers) -> u32 {
     let least = estimated(state, places);
     match numbers.within(1, 16) {
         // so that the unplaced number is at its longest where estimates are
-        _ if least > LONGEST.0 && numbers.one_in(2) => BOUND,
+        _ if least > FOUR_BYTES && numbers.one_in(2) => BOUND,
         1 => least.saturating_sub(1),
         2..=4 => least,
         5..=6 => BOUND,

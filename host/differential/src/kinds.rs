@@ -1,11 +1,12 @@
-//! What the cases meet, and what they must meet.
+//! What the cases meet.
 
 use crate::head_counts::estimated;
-use reference::{count, holding, known, read_description_within, read_state_within, record, Net, State, BOUND, OLDER_BOUND};
+use reference::number::Bytes;
+use reference::{count, dense, holding, known, read_description_within, read_state_within, record, sparse};
+use reference::{Edition, Net, State, BOUND, OLDER_BOUND};
 use seeded::met::Met;
 use seeded::nets::{alone_with, deepest, depths, has_one_place, settled, EDGES};
 use std::fmt;
-use yarrowbeam::{LARGEST_DESCRIPTION, LARGEST_STATE};
 
 /// A kind, and what is of it: a call, one of its outputs, a net, a description or a state; and when, if that matters.
 #[derive(Clone, Copy, PartialEq, Eq, Hash)]
@@ -39,15 +40,33 @@ pub const AFTER_COUNT: &str = "after a count, ";
 pub const AFTER_ONE: &str = "after a count of one place, ";
 
 /// The state is the fresh one.
-const AT_FRESH: &str = "at a fresh state, ";
+pub const AT_FRESH: &str = "at a fresh state, ";
 
 /// The state has tokens unplaced in a group with one direct place; no list of calls from fresh leads there.
-const AT_OPEN: &str = "at a state open in a group with one place, ";
+pub const AT_OPEN: &str = "at a state open in a group with one place, ";
+
+/// The state is saved in this edition.
+pub fn in_edition(edition: Edition) -> &'static str {
+    match edition {
+        Edition::First => "in edition 1, ",
+        Edition::Second => "in edition 2, ",
+    }
+}
+
+/// The same of the bytes of a state, read or not.
+pub fn in_edition_of(state: &[u8]) -> Option<&'static str> {
+    match Bytes::new(state).number() {
+        Ok(1) => Some(in_edition(Edition::First)),
+        Ok(2) => Some(in_edition(Edition::Second)),
+        _ => None,
+    }
+}
 
 /// What is so of a net and a state that were read.
 pub fn whens(net: &Net, state: &State) -> Vec<&'static str> {
+    let is_fresh = dense(state) == dense(&reference::fresh(net));
     let is_open = !alone_with(net, &state.unplaced).is_empty();
-    let whens = [(AT_FRESH, *state == reference::fresh(net)), (AT_OPEN, is_open)];
+    let whens = [(AT_FRESH, is_fresh), (AT_OPEN, is_open)];
     whens.into_iter().filter(|when| when.1).map(|when| when.0).collect()
 }
 
@@ -123,7 +142,7 @@ fn faults(net: &Net, places: &[u8]) -> [bool; 4] {
 /// Is a list of places of a kind?
 type OfList = fn(&Net, &[u8]) -> bool;
 
-const LISTS: [(&str, OfList); 8] = [
+pub const LISTS: [(&str, OfList); 8] = [
     ("no place", |_, places| places.is_empty()),
     ("place 0 alone at fault", |net, places| faults(net, places) == [true, false, false, false]),
     ("a place above P alone at fault", |net, places| faults(net, places) == [false, true, false, false]),
@@ -137,7 +156,7 @@ const LISTS: [(&str, OfList); 8] = [
 /// Is a number of tokens of a kind, beside what the estimates add up to?
 type OfTokens = fn(u32, u32) -> bool;
 
-const TOKENS: [(&str, OfTokens); 9] = [
+pub const TOKENS: [(&str, OfTokens); 9] = [
     ("one token less than the estimates", |estimated, n| estimated <= BOUND && estimated.checked_sub(n) == Some(1)),
     ("as many tokens as the estimates", |estimated, n| n == estimated && n <= BOUND),
     ("tokens between", |estimated, n| estimated < n && n < BOUND),
@@ -150,18 +169,18 @@ const TOKENS: [(&str, OfTokens); 9] = [
 ];
 
 /// Head counts of one place that are accepted.
-const ONE_MORE: &str = "one place and more tokens than its estimate";
-const ONE_AS_MANY: &str = "one place and as many tokens as its estimate";
-const ONE_BESIDE_OPEN: &str = "one place, beside a group with one place that is left open";
+pub const ONE_MORE: &str = "one place and more tokens than its estimate";
+pub const ONE_AS_MANY: &str = "one place and as many tokens as its estimate";
+pub const ONE_BESIDE_OPEN: &str = "one place, beside a group with one place that is left open";
 
 fn too_large(n: &u32) -> bool {
     *n > OLDER_BOUND
 }
 
-/// Is a state that is asked for older observers of a kind?
+/// Is a state of a kind that matters to older observers, or in edition 2?
 type OfState = fn(&Net, &State) -> bool;
 
-const OLDER: [(&str, OfState); 7] = [
+pub const OLDER: [(&str, OfState); 7] = [
     ("estimates alone too large", |_, s| s.estimates.iter().any(too_large) && !s.unplaced.iter().any(too_large)),
     ("unplaced numbers alone too large", |_, s| !s.estimates.iter().any(too_large) && s.unplaced.iter().any(too_large)),
     ("both too large", |_, s| s.estimates.iter().any(too_large) && s.unplaced.iter().any(too_large)),
@@ -175,6 +194,21 @@ const OLDER: [(&str, OfState); 7] = [
         net.groups.iter().any(|group| too_large(&group.count)) && !s.estimates.iter().chain(&s.unplaced).any(too_large)
     }),
 ];
+
+pub const SPARSE: [(&str, OfState); 6] = [
+    ("no pair, of several places", |net, s| net.places() > 1 && s.estimates.iter().all(|&n| n == 0)),
+    ("a pair for each of several places", |net, s| net.places() > 1 && !s.estimates.contains(&0)),
+    ("a pair at the last of several places alone", |_, s| {
+        s.estimates.len() > 1 && s.estimates.iter().position(|&n| n != 0) == Some(s.estimates.len() - 1)
+    }),
+    ("an own remainder that is not the unplaced number", |net, s| (1..=net.groups.len()).any(|g| has_unplaced_inside(net, s, g))),
+    ("fewer bytes than in edition 1", |net, s| sparse(net, s).len() < dense(s).len()),
+    ("more bytes than in edition 1", |net, s| sparse(net, s).len() > dense(s).len()),
+];
+
+fn has_unplaced_inside(net: &Net, state: &State, g: usize) -> bool {
+    net.own(&state.unplaced, g) < state.unplaced[g - 1].into()
+}
 
 /// Which of the two rooms of a head count are too short.
 pub const SHORT: [(&str, [bool; 2]); 3] = [
@@ -211,10 +245,17 @@ pub fn count_older(net: &Net, state: &State, met: &mut Met<Of>) {
     }
 }
 
+/// Counts what edition 2 has to hold, of a state that was read.
+pub fn count_sparse(net: &Net, state: &State, met: &mut Met<Of>) {
+    for (name, _) in SPARSE.iter().filter(|(_, is)| is(net, state)) {
+        met.count(of("sparse", Kind::With(name)));
+    }
+}
+
 /// Is a net of a kind, beside its fresh state?
 type OfFresh = fn(&Net, &State) -> bool;
 
-const FRESH: [(&str, OfFresh); 7] = [
+pub const FRESH: [(&str, OfFresh); 7] = [
     ("tokens, but none at a place", |net, s| {
         net.groups.iter().any(|group| group.count > 0) && s.estimates.iter().all(|&n| n == 0)
     }),
@@ -236,7 +277,7 @@ const FRESH: [(&str, OfFresh); 7] = [
 ];
 
 /// How deep a group is whose tokens a fresh state has at its one place.
-const SETTLED: &str = "fresh with a group that has one place,";
+pub const SETTLED: &str = "fresh with a group that has one place,";
 
 /// Counts what the fresh state of a net is.
 pub fn count_fresh(net: &Net, fresh: &State, met: &mut Met<Of>) {
@@ -248,13 +289,15 @@ pub fn count_fresh(net: &Net, fresh: &State, met: &mut Met<Of>) {
 }
 
 /// Where numbers at the bounds and one past them stand.
-const COUNT: &str = "a count of";
-const ESTIMATE: &str = "an estimate of";
-const UNPLACED: &str = "an unplaced number of";
-const AFTER: &str = "after an event an estimate of";
+pub const COUNT: &str = "a count of";
+pub const ESTIMATE: &str = "an estimate of";
+pub const UNPLACED: &str = "an unplaced number of";
+pub const REMAINDER: &str = "in edition 2 an own remainder of";
+pub const SUM: &str = "in edition 2 lower own remainders with a sum of";
+pub const AFTER: &str = "after an event an estimate of";
 
 /// An event that is possible.
-const RAISED_IN_OPEN: &str = "a raise in a group with one place that is open";
+pub const RAISED_IN_OPEN: &str = "a raise in a group with one place that is open";
 
 /// Counts the numbers at the bounds and one past them among these.
 fn count_edges(what: &'static str, found: &[u32], met: &mut Met<Of>) {
@@ -270,6 +313,12 @@ pub fn count_edges_of(description: &[u8], state: &[u8], met: &mut Met<Of>) {
     let Ok(state) = read_state_within(&net, state, BOUND + 1) else { return };
     count_edges(ESTIMATE, &state.estimates, met);
     count_edges(UNPLACED, &state.unplaced, met);
+    if state.edition == Edition::Second {
+        let (sums, alone): (Vec<usize>, Vec<usize>) = (1..=net.groups.len()).partition(|&g| has_unplaced_inside(&net, &state, g));
+        for (what, groups) in [(REMAINDER, alone), (SUM, sums)] {
+            count_edges(what, &groups.into_iter().map(|g| state.unplaced[g - 1]).collect::<Vec<_>>(), met);
+        }
+    }
 }
 
 /// The same of the estimates that a possible event leaves, in range or not; and counts events that raise in an open group.
@@ -286,13 +335,13 @@ pub fn count_after(net: &Net, state: &State, event: u32, met: &mut Met<Of>) {
 }
 
 /// The limit that is named holds the event alone, or is the highest of several.
-const ALONE: &str = "judge by one limit alone,";
-const OVER_OTHERS: &str = "judge by the highest of several limits,";
+pub const ALONE: &str = "judge by one limit alone,";
+pub const OVER_OTHERS: &str = "judge by the highest of several limits,";
 
 /// Is another limit of a kind, beside the one that is named? The two numbers, whether the other holds too, and whether the two are equal.
 type OfOther = fn(u32, u32, bool, bool) -> bool;
 
-const OTHERS: [(&str, OfOther); 6] = [
+pub const OTHERS: [(&str, OfOther); 6] = [
     ("a lower limit that holds and is equal", |other, named, holds, equal| other < named && holds && equal),
     ("a lower limit that holds and is different", |other, named, holds, equal| other < named && holds && !equal),
     ("a lower limit that does not hold", |other, named, holds, _| other < named && !holds),
@@ -313,65 +362,6 @@ pub fn count_holding(net: &Net, state: &State, event: u32, met: &mut Met<Of>) {
             met.count(of("judge", Kind::With(name)));
         }
     }
-}
-
-/// The length of the largest state that is written for older observers.
-const LARGEST_FOR_OLDER: usize = 291;
-
-/// All that must be met, in the order in which it is printed.
-pub fn due() -> Vec<Of> {
-    let refusals = |last: u32| (1..=last).map(Kind::Refused);
-    let refused = |refusals: &'static [u32]| refusals.iter().copied().map(Kind::Refused);
-    let rooms = [Room::Zero, Room::Short, Room::OneShort, Room::Exact, Room::Larger].map(Kind::Room);
-    let bounds = [(1, 64, "places"), (1, 64, "events"), (0, 32, "groups"), (0, 8, "deep"), (0, 16, "limits")];
-    let bytes = |size: usize| [Kind::Size(size, "bytes")].into_iter();
-    let mut due = Vec::new();
-    let mut add_when = |when, what, kinds: &mut dyn Iterator<Item = Kind>| due.extend(kinds.map(|kind| of(what, kind).when(when)));
-    let mut add = |what, kinds: &mut dyn Iterator<Item = Kind>| add_when("", what, kinds);
-    add("fresh", &mut [Kind::Wrote].into_iter().chain(refusals(8)).chain([Kind::Refused(13)]).chain(rooms));
-    add("fresh", &mut FRESH.iter().map(|(name, _)| Kind::With(name)));
-    add(SETTLED, &mut (1..=8).map(|depth| Kind::Size(depth, "deep")));
-    add("record", &mut [Kind::Wrote].into_iter().chain(refusals(13)).chain(rooms).chain([Kind::With(RAISED_IN_OPEN)]));
-    add("judge", &mut [Kind::Allow].into_iter().chain((1..=16).map(Kind::Hold)).chain(refusals(12)));
-    add(ALONE, &mut (1..=16).map(Kind::Hold));
-    add(OVER_OTHERS, &mut (2..=16).map(Kind::Hold));
-    add("judge", &mut OTHERS.iter().map(|(name, _)| Kind::With(name)));
-    add("known", &mut [Kind::Yes, Kind::No].into_iter().chain(refusals(9)));
-    add("count", &mut [Kind::Wrote].into_iter().chain(refusals(9)).chain(refused(&[13, 14, 15, 16])));
-    add("count", &mut LISTS.iter().map(|(name, _)| Kind::With(name)));
-    add("count", &mut TOKENS.iter().map(|(name, _)| Kind::With(name)));
-    add("count", &mut [ONE_MORE, ONE_AS_MANY, ONE_BESIDE_OPEN].into_iter().map(Kind::With));
-    add("count", &mut SHORT.iter().map(|(name, _)| Kind::With(name)));
-    add("count", &mut [0, 1, 31, 32].into_iter().map(|groups| Kind::Size(groups, "groups")));
-    add("count's description", &mut rooms.into_iter().chain(bytes(LARGEST_DESCRIPTION)));
-    add("count's state", &mut rooms.into_iter().chain(bytes(LARGEST_STATE)));
-    add("older", &mut [Kind::Wrote].into_iter().chain(refusals(9)).chain(refused(&[13, 17])).chain(rooms));
-    add("older", &mut OLDER.iter().map(|(name, _)| Kind::With(name)).chain([9, 17].map(Kind::RefusedInNoRoom)));
-    add("older", &mut bytes(LARGEST_FOR_OLDER));
-    for what in [COUNT, ESTIMATE, UNPLACED, AFTER] {
-        add(what, &mut EDGES.into_iter().map(|edge| Kind::Size(edge as usize, "tokens")));
-    }
-    add("list from fresh", &mut (1..=4).map(|counts| Kind::Size(counts, "head counts")));
-    add("list from a given state", &mut [Kind::With("a head count")].into_iter());
-    add("net", &mut bounds.into_iter().flat_map(|(least, most, of)| [Kind::Size(least, of), Kind::Size(most, of)]));
-    add("description", &mut bytes(LARGEST_DESCRIPTION));
-    add("state", &mut bytes(LARGEST_STATE));
-    add_when(AFTER_COUNT, "record", &mut [Kind::Wrote].into_iter().chain(refused(&[9, 10, 11, 12, 13])));
-    add_when(AFTER_COUNT, "judge", &mut [Kind::Allow, Kind::Hold(1)].into_iter().chain(refused(&[9, 10, 11, 12])));
-    add_when(AFTER_COUNT, "known", &mut [Kind::Yes, Kind::No, Kind::Refused(9)].into_iter());
-    add_when(AFTER_COUNT, "count", &mut [Kind::Wrote].into_iter().chain(refused(&[9, 13, 14, 15, 16])));
-    add_when(AFTER_COUNT, "older", &mut [Kind::Wrote].into_iter().chain(refused(&[9, 13, 17])));
-    for when in [AFTER_ONE, AT_FRESH] {
-        add_when(when, "record", &mut [Kind::Wrote].into_iter().chain(refused(&[11, 12])));
-        add_when(when, "judge", &mut [Kind::Allow, Kind::Hold(1)].into_iter().chain(refused(&[11, 12])));
-        add_when(when, "known", &mut [Kind::Yes, Kind::No].into_iter());
-    }
-    add_when(AT_OPEN, "record", &mut [Kind::Wrote].into_iter().chain(refused(&[11, 12])));
-    add_when(AT_OPEN, "judge", &mut [Kind::Allow, Kind::Hold(1)].into_iter().chain(refused(&[11, 12])));
-    add_when(AT_OPEN, "known", &mut [Kind::No].into_iter());
-    add_when(AT_OPEN, "count", &mut [Kind::Wrote].into_iter());
-    add_when(AT_OPEN, "older", &mut [Kind::Wrote].into_iter().chain(refused(&[17])));
-    due
 }
 
 /// Counts the sizes of a net that was read.

@@ -1,15 +1,19 @@
 //! Compares every call of the library with the reference: `differential [CASES [SEED]]`.
 //!
-//! A case is a description, a state, an event and a head count; each of the six calls is made with them. Prints how often each
+//! A case is a description, a state, an event and a head count; each of the eight calls is made with them. Prints how often each
 //! answer, room and size was met; exits with 1 at the first difference, or where one of them was never met.
 
 mod compare;
+mod due;
+mod editions;
+mod faults;
 mod head_counts;
 mod kinds;
 mod older;
 
 use compare::{compare, Case};
-use kinds::{due, of, Kind, Of};
+use due::due;
+use kinds::{in_edition, of, Kind, Of};
 use reference::{write_description, write_state, Net, State};
 use seeded::damage::damaged;
 use seeded::met::Met;
@@ -51,8 +55,9 @@ impl List {
         let places = head_counts::places(&self.net, numbers);
         let tokens = head_counts::tokens(&self.state, &places, numbers);
         let mut description = write_description(&self.net);
-        let mut state = write_state(&self.state);
-        match numbers.within(1, 18) {
+        let mut state = write_state(&self.net, &self.state);
+        let mut change = None;
+        match numbers.within(1, 21) {
             1..=3 => description = damaged(&description, numbers),
             4..=5 => state = damaged(&state, numbers),
             6 => {
@@ -64,15 +69,22 @@ impl List {
                 nets::tighten(&mut tight, &self.state, event, numbers);
                 description = write_description(&tight);
             }
-            9..=10 => state = write_state(&nets::at_edge(&self.net, &self.state, numbers)),
+            9..=10 => state = write_state(&self.net, &nets::at_edge(&self.net, &self.state, numbers)),
             11 => {
                 let length = numbers.below(20);
                 let other = if numbers.one_in(2) { &mut description } else { &mut state };
                 *other = if numbers.one_in(2) { Vec::new() } else { numbers.bytes(length) };
             }
+            12..=14 => {
+                let changed = numbers.pick(&[faults::faulty, faults::faulty, faults::replaced]);
+                if let Some((made, bytes)) = changed(&self.net, &self.state, numbers) {
+                    (change, state) = (Some(made), bytes);
+                }
+            }
             _ => (),
         }
-        Case { description, state, event, places, tokens, counted: self.counted > 0, counted_one: self.counted_one }
+        let (counted, counted_one) = (self.counted > 0, self.counted_one);
+        Case { description, state, change, event, places, tokens, counted, counted_one }
     }
 
     /// The event is recorded or the head count taken, so that histories come about.
@@ -85,11 +97,12 @@ impl List {
             (self.net, self.state) = (net, state);
             self.counted += 1;
             self.counted_one = case.places.len() == 1;
-            if self.from_fresh {
-                met.count(of("list from fresh", Kind::Size(self.counted, "head counts")));
+            let kind = if self.from_fresh {
+                of("list from fresh", Kind::Size(self.counted, "head counts"))
             } else {
-                met.count(of("list from a given state", Kind::With("a head count")));
-            }
+                of("list from a given state", Kind::With("a head count"))
+            };
+            met.count(kind.when(in_edition(self.state.edition)));
         }
     }
 }
@@ -101,6 +114,10 @@ fn run(cases: u64, seed: u64, met: &mut Met<Of>) -> Result<(), String> {
         for made in (first..cases).take(CASES_OF_A_NET) {
             if numbers.one_in(if list.net.groups.len() > 30 { 2 } else { 6 }) {
                 (list.state, list.from_fresh, list.counted_one) = (nets::state(&list.net, &mut numbers), false, false);
+            }
+            // The state is converted at times, so that lists go on in both editions.
+            if numbers.one_in(2) {
+                list.state.edition = nets::edition(&mut numbers);
             }
             let case = list.case(&mut numbers);
             let compared = catch_unwind(AssertUnwindSafe(|| compare(&case, &mut numbers, met)));
@@ -131,7 +148,7 @@ fn main() -> ExitCode {
         return ExitCode::FAILURE;
     }
     let never = met.print(due());
-    println!("total: {cases} cases, {} calls, no difference", 6 * cases);
+    println!("total: {cases} cases, {} calls, no difference", 8 * cases);
     if !never.is_empty() {
         eprintln!("never met: {}", never.join(", "));
         return ExitCode::FAILURE;

@@ -2,17 +2,32 @@
 
 use crate::numbers::Numbers;
 use reference::description::{Group, Limit, Net};
-use reference::{judge, State, Verdict, BOUND, OLDER_BOUND};
+use reference::{judge, Edition, State, Verdict, BOUND, OLDER_BOUND};
 
 /// Numbers at the bounds: the last that older observers read and the next one, the last that is read now and the next one.
 pub const EDGES: [u32; 4] = [OLDER_BOUND, OLDER_BOUND + 1, BOUND, BOUND + 1];
 
-/// From where to where numbers have their longest form, and the bound less any of them too.
-pub type Long = (u32, u32);
-pub const LONGEST: Long = (2_097_152, BOUND - 2_097_152);
+/// From where to where numbers are chosen so that a state is as long as can be: estimates, so that the bound less two of them has
+/// its longest form too; own parts of the innermost groups, and of those around them, so that no sum is past the bound.
+#[derive(Clone, Copy)]
+struct Long {
+    estimates: (u32, u32),
+    innermost: (u32, u32),
+    around: (u32, u32),
+}
 
-/// The same for older observers.
-const LONGEST_FOR_OLDER: Long = (16_384, OLDER_BOUND - 16_384);
+/// The least number of four bytes. Seven of them together are within the bound, and eight are one past it.
+pub const FOUR_BYTES: u32 = 2_097_152;
+
+/// In both editions, where groups are at most seven deep.
+const LONGEST: Long = Long {
+    estimates: (FOUR_BYTES, (BOUND - FOUR_BYTES) / 2),
+    innermost: (FOUR_BYTES, BOUND / 7),
+    around: (FOUR_BYTES, BOUND / 7),
+};
+
+/// In edition 1 for older observers, where numbers have up to three bytes: own parts are not written.
+const LONGEST_FOR_OLDER: Long = Long { estimates: (16_384, 24_575), innermost: (16_384, 49_151), around: (500, 1_500) };
 
 /// The sizes of a net, and how its parts are chosen.
 struct Shape {
@@ -27,7 +42,7 @@ struct Shape {
     loose: u32,
     /// No group has two direct places; those that are left over are loose.
     alone: bool,
-    /// Groups stand in chains as deep as can be, and every number has its longest form.
+    /// Groups stand in chains of this depth, and every number has its longest form.
     longest: bool,
     /// The largest count.
     bound: u32,
@@ -38,7 +53,7 @@ const LARGEST: Shape = Shape {
     places: 64,
     events: 64,
     groups: 32,
-    depth: 8,
+    depth: 7,
     limits: 16,
     filled: 8,
     loose: 0,
@@ -51,9 +66,9 @@ fn shape(numbers: &mut Numbers) -> Shape {
     let most = match numbers.within(1, 1_000) {
         1..=3 => return LARGEST,
         // so that a head count makes it the largest
-        4..=10 => return Shape { groups: 31, loose: 1, ..LARGEST },
-        11..=30 => LARGEST,
-        31..=150 => Shape { places: 16, events: 12, groups: 12, ..LARGEST },
+        4..=20 => return Shape { groups: 31, loose: 1, ..LARGEST },
+        21..=40 => LARGEST,
+        41..=150 => Shape { places: 16, events: 12, groups: 12, ..LARGEST },
         _ => Shape { places: 6, events: 4, groups: 5, limits: 4, ..LARGEST },
     };
     let mut shape = Shape {
@@ -168,8 +183,10 @@ fn fitting(net: &Net, bound: u32, long: Option<Long>, numbers: &mut Numbers) -> 
         let room = around.iter().map(|&g| bound - whole[g - 1]).min().unwrap_or(0);
         let own = match (long, numbers.within(1, 40)) {
             _ if bound > BOUND => room,
-            (Some((low, high)), _) if whole[g - 1] == 0 => numbers.within(low, high),
-            (Some(_), _) => numbers.within(500, 1_500),
+            (Some(long), _) => {
+                let (low, high) = if whole[g - 1] == 0 { long.innermost } else { long.around };
+                numbers.within(low, high)
+            }
             (_, 1) => room,
             (_, 2) => numbers.within(0, room),
             (_, 3) => numbers.pick(&EDGES).saturating_sub(whole[g - 1]),
@@ -242,6 +259,10 @@ pub fn settled(net: &Net) -> Vec<usize> {
     alone_with(net, &net.groups.iter().map(|group| group.count).collect::<Vec<_>>())
 }
 
+pub fn edition(numbers: &mut Numbers) -> Edition {
+    numbers.pick(&[Edition::First, Edition::Second])
+}
+
 /// A state that fits the net and that perhaps no history gave.
 pub fn state(net: &Net, numbers: &mut Numbers) -> State {
     // Few nets can have the longest state, or get it by a head count.
@@ -250,8 +271,7 @@ pub fn state(net: &Net, numbers: &mut Numbers) -> State {
     let high = numbers.pick(&[0, 1, 3, 3, 10, 300]);
     let estimates = (0..net.places())
         .map(|_| match (long, numbers.within(1, 40)) {
-            // so that two of them are seldom above the bound
-            (Some((low, high)), _) => numbers.within(low, (low + high) / 2),
+            (Some(Long { estimates: (low, high), .. }), _) => numbers.within(low, high),
             (_, 1) => numbers.pick(&EDGES[..3]),
             // from where one event passes the bound
             (_, 2) => numbers.pick(&EDGES) - numbers.pick(&[1, 2, 3, 4, 255]),
@@ -260,11 +280,11 @@ pub fn state(net: &Net, numbers: &mut Numbers) -> State {
             _ => numbers.within(0, high),
         })
         .collect();
-    State { estimates, unplaced: fitting(net, BOUND, long, numbers) }
+    State { edition: edition(numbers), estimates, unplaced: fitting(net, BOUND, long, numbers) }
 }
 
 /// The state with one number at a bound or one past it. It fits as it did before where the number is not past the bound, and where
-/// what is unplaced inside a group is not more than what is unplaced in it.
+/// what is unplaced inside a group is not more than what is unplaced in it; in edition 2 a remainder is far past the bound then.
 pub fn at_edge(net: &Net, state: &State, numbers: &mut Numbers) -> State {
     let mut state = state.clone();
     let outermost: Vec<usize> =

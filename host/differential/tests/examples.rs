@@ -1,6 +1,6 @@
 //! The examples of docs/REFERENCE.md, whose last section says how they are written: each call is made through the library and by
 //! the reference, each journal printed by the program and by the reference. What host/test_c/line.c prints is read as calls from
-//! fresh on the net of the first example that has one.
+//! fresh on the net of the section "The line".
 
 use reference::journal::journal;
 use reference::number::{put_number, Bytes};
@@ -66,6 +66,8 @@ fn by_library(words: &Words, d: &[u8], s: &[u8]) -> Answer {
             yarrowbeam::Verdict::Hold(limit) => format!("hold {limit}"),
         }),
         ["older", ..] => yarrowbeam::older(d, s, lent).map(|length| hex(&lent[..length])),
+        ["dense", ..] => yarrowbeam::dense(d, s, lent).map(|length| hex(&lent[..length])),
+        ["sparse", ..] => yarrowbeam::sparse(d, s, lent).map(|length| hex(&lent[..length])),
         ["known"] => yarrowbeam::known(d, s).map(|known| if known { "yes" } else { "no" }.to_string()),
         ["count", n, "at", ..] => {
             let written = yarrowbeam::count(d, s, &places(words), number(n), described, lent);
@@ -80,23 +82,24 @@ fn by_library(words: &Words, d: &[u8], s: &[u8]) -> Answer {
 fn by_reference(words: &Words, d: &[u8], s: &[u8]) -> Answer {
     let [room, state_room] = rooms(words);
     let fitting = |bytes: Vec<u8>| if bytes.len() <= state_room { Ok(hex(&bytes)) } else { Err(13u32) };
-    let written = |state| fitting(write_state(&state));
     let net = read_description(d)?;
     if words[0] == "fresh" {
-        return Ok((written(reference::fresh(&net))?, d.to_vec()));
+        return Ok((fitting(write_state(&net, &reference::fresh(&net)))?, d.to_vec()));
     }
     let state = read_state(&net, s)?;
     let answer = match words {
-        ["record", event, ..] => written(reference::record(&net, &state, number(event))?)?,
+        ["record", event, ..] => fitting(write_state(&net, &reference::record(&net, &state, number(event))?))?,
         ["judge", event] => match reference::judge(&net, &state, number(event))? {
             reference::Verdict::Allow => "allow".to_string(),
             reference::Verdict::Hold(limit) => format!("hold {limit}"),
         },
         ["older", ..] => fitting(reference::older(&state)?)?,
+        ["dense", ..] => fitting(reference::dense(&state))?,
+        ["sparse", ..] => fitting(reference::sparse(&net, &state))?,
         ["count", n, "at", ..] => {
             let (net, state) = reference::count(&net, &state, &places(words), number(n))?;
             let described = write_description(&net);
-            return if described.len() <= room { Ok((written(state)?, described)) } else { Err(13) };
+            return if described.len() <= room { Ok((fitting(write_state(&net, &state))?, described)) } else { Err(13) };
         }
         _ => if reference::known(&net, &state) { "yes" } else { "no" }.to_string(),
     };
@@ -163,7 +166,7 @@ impl Example {
         let [library, reference] = [by_library, by_reference].map(|by| by(&words, &self.description, &self.state));
         assert_eq!(library, reference, "{asked} by the library and by the reference");
         assert_eq!(said(library.clone().map(|(answer, _)| answer)), shown, "{asked}");
-        if let (Some(state), "fresh" | "record" | "count") = (bytes(shown), words[0]) {
+        if let (Some(state), "fresh" | "record" | "count" | "dense" | "sparse") = (bytes(shown), words[0]) {
             self.state = state;
         }
         match library {
@@ -179,9 +182,15 @@ impl Example {
     /// A description that stands in one line, and what fresh answers; all calls refuse it alike.
     fn whole(&mut self, description: Vec<u8>, shown: &str) {
         self.description = description;
-        let refused = shown.starts_with("refused");
-        let others: &[&str] = if refused { &["record 1", "judge 1", "known", "count 0 at 01", "older"] } else { &[] };
-        for call in [&["fresh"], others].concat() {
+        self.call("fresh", shown);
+        if shown.starts_with("refused") {
+            self.all_refuse(shown);
+        }
+    }
+
+    /// All calls that take a state refuse it, or the description, alike.
+    fn all_refuse(&mut self, shown: &str) {
+        for call in ["record 1", "judge 1", "known", "count 0 at 01", "older", "dense", "sparse"] {
             self.call(call, shown);
         }
     }
@@ -192,6 +201,10 @@ impl Example {
                 (_, Some(description)) => self.whole(description, shown),
                 (Some(("number", form)), _) => assert_eq!(stored(&bytes(form).expect("bytes")), shown, "{line}"),
                 (Some(("signed", form)), _) => assert_eq!(signed(&bytes(form).expect("bytes")), shown, "{line}"),
+                (Some(("state", state)), _) => {
+                    self.state = bytes(state).expect("bytes");
+                    self.all_refuse(shown);
+                }
                 _ => self.call(asked, shown),
             },
             None => match line.strip_prefix("state ") {
@@ -219,15 +232,26 @@ impl Example {
     }
 }
 
+/// The examples in a text.
+fn blocks(page: &str) -> impl Iterator<Item = &str> {
+    page.split("```example\n").skip(1).map(|rest| rest.split("```").next().unwrap_or(rest))
+}
+
 #[test]
 fn examples() {
     let page = text("docs/REFERENCE.md");
-    let blocks = page.split("```example\n").skip(1).map(|rest| rest.split("```").next().unwrap_or(rest));
-    let examples: Vec<Example> = blocks.map(Example::read).collect();
+    let examples: Vec<Example> = blocks(&page).map(Example::read).collect();
     let met: BTreeSet<&String> = examples.iter().flat_map(|example| &example.refusals).collect();
-    let all: Vec<String> = (1..=17).map(|refusal| format!("refused {refusal}")).collect();
+    let all: Vec<String> = (1..=18).map(|refusal| format!("refused {refusal}")).collect();
     assert_eq!(met, all.iter().collect(), "each refusal has an example");
-    let mut line = examples.into_iter().find(|example| !example.description.is_empty()).expect("an example of a net");
-    line.state = write_state(&reference::fresh(&read_description(&line.description).expect("a net")));
+}
+
+#[test]
+fn the_line() {
+    let page = text("docs/REFERENCE.md");
+    let (_, section) = page.split_once("### The line\n").expect("the section");
+    let mut line = Example::read(blocks(section).next().expect("its example"));
+    let net = read_description(&line.description).expect("a net");
+    line.state = write_state(&net, &reference::fresh(&net));
     text("host/test_c/expected").lines().for_each(|call| line.line(call));
 }

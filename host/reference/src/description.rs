@@ -1,7 +1,7 @@
 //! Nets and their descriptions.
 
 use crate::number::{put_number, put_signed, Bytes};
-use crate::{Refusal, BOUND};
+use crate::{require, Refusal, BOUND};
 
 #[derive(Clone, Debug, PartialEq, Eq)]
 pub struct Group {
@@ -33,14 +33,12 @@ impl Net {
 
     /// Is place p among the places of group g?
     pub fn is_in(&self, p: usize, g: usize) -> bool {
-        let mut at = self.homes[p];
-        while at != 0 {
-            if at == g {
-                return true;
-            }
-            at = self.groups[at - 1].around;
-        }
-        false
+        self.is_within(self.homes[p], g)
+    }
+
+    /// Is group h group g itself, or inside it? Where h is 0 there is no group.
+    pub fn is_within(&self, h: usize, g: usize) -> bool {
+        h != 0 && (h == g || self.is_within(self.groups[h - 1].around, g))
     }
 
     /// A number of group g less those of the groups directly inside.
@@ -58,14 +56,6 @@ impl Net {
             let own = self.own(numbers, g);
             own >= 0 && (own == 0 || self.homes.contains(&g))
         })
-    }
-}
-
-fn require(yes: bool, refusal: Refusal) -> Result<(), Refusal> {
-    if yes {
-        Ok(())
-    } else {
-        Err(refusal)
     }
 }
 

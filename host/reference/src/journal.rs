@@ -52,8 +52,8 @@ mod tests {
         let net = read_description(&POOL).unwrap();
         assert_eq!(write_description(&net), POOL);
         let state = fresh(&net);
-        assert_eq!(write_state(&state), [0x01, 0x03, 0x00, 0x00, 0x00, 0x01, 0x03]);
-        assert_eq!(read_state(&net, &write_state(&state)), Ok(state.clone()));
+        assert_eq!(write_state(&net, &state), [0x01, 0x03, 0x00, 0x00, 0x00, 0x01, 0x03]);
+        assert_eq!(read_state(&net, &write_state(&net, &state)), Ok(state.clone()));
         assert_eq!(judge(&net, &state, 2), Ok(Verdict::Hold(1)));
         assert_eq!(judge(&net, &state, 3), Ok(Verdict::Allow));
         let mut input = vec![POOL.len() as u8];

@@ -31,6 +31,8 @@ mod c {
             out_length: usize,
         ) -> i64;
         pub fn older(d: *const u8, d_length: usize, s: *const u8, s_length: usize, out: *mut u8, out_length: usize) -> i64;
+        pub fn dense(d: *const u8, d_length: usize, s: *const u8, s_length: usize, out: *mut u8, out_length: usize) -> i64;
+        pub fn sparse(d: *const u8, d_length: usize, s: *const u8, s_length: usize, out: *mut u8, out_length: usize) -> i64;
     }
 }
 
@@ -82,4 +84,16 @@ pub fn count(d: &[u8], s: &[u8], places: &[u8], n: u32, described: &mut [u8], ou
 pub fn older(d: &[u8], s: &[u8], out: &mut [u8]) -> i64 {
     // SAFETY: all three are slices, and `out`, being `&mut`, overlaps neither `d` nor `s`.
     unsafe { c::older(d.as_ptr(), d.len(), s.as_ptr(), s.len(), out.as_mut_ptr(), out.len()) }
+}
+
+#[inline]
+pub fn dense(d: &[u8], s: &[u8], out: &mut [u8]) -> i64 {
+    // SAFETY: all three are slices, and `out`, being `&mut`, overlaps neither `d` nor `s`.
+    unsafe { c::dense(d.as_ptr(), d.len(), s.as_ptr(), s.len(), out.as_mut_ptr(), out.len()) }
+}
+
+#[inline]
+pub fn sparse(d: &[u8], s: &[u8], out: &mut [u8]) -> i64 {
+    // SAFETY: all three are slices, and `out`, being `&mut`, overlaps neither `d` nor `s`.
+    unsafe { c::sparse(d.as_ptr(), d.len(), s.as_ptr(), s.len(), out.as_mut_ptr(), out.len()) }
 }

@@ -3,8 +3,9 @@ use std::fmt;
 /// Why a call refuses.
 ///
 /// Of 1 to 8, the description's bytes are read forwards: the first fault that is met is answered, and of several at one number
-/// the lowest. Then follow 9; of an event 10 to 12, of a head count 14 to 16, of a state for older observers 17; and 13 comes
-/// last. A call skips those that do not concern it.
+/// the lowest. Then follows the state with 9 or 18: its bytes are read forwards too, and the first fault that is met is answered;
+/// whether its numbers fit the net together is asked after the last of them. Then follow of an event 10 to 12, of a head count 14
+/// to 16, of a state for older observers 17; and 13 comes last. A call skips those that do not concern it.
 #[derive(Clone, Copy, Debug, PartialEq, Eq, PartialOrd, Ord, Hash)]
 pub enum Refusal {
     /// A stored number of the description is not complete, not in its shortest form or too large.
@@ -23,7 +24,7 @@ pub enum Refusal {
     Share = 7,
     /// Bytes are left after the description.
     BytesLeft = 8,
-    /// The state is not well formed or does not fit the net.
+    /// The state is of another edition than 1 and 2, not well formed, or does not fit the net.
     State = 9,
     /// The event number is not one of the net's, which are counted from 1.
     Event = 10,
@@ -41,11 +42,13 @@ pub enum Refusal {
     NoGroupLeft = 16,
     /// Some estimate or unplaced number of the state is above 65,535, which older observers do not read.
     TooLarge = 17,
+    /// In a state of edition 2, the place of a pair is not one of the net's or not above the one before it, or its estimate is 0.
+    Pair = 18,
 }
 
 impl Refusal {
     /// All refusals, by number.
-    pub const ALL: [Refusal; 17] = [
+    pub const ALL: [Refusal; 18] = [
         Refusal::Number,
         Refusal::Edition,
         Refusal::Size,
@@ -63,18 +66,19 @@ impl Refusal {
         Refusal::Miscounted,
         Refusal::NoGroupLeft,
         Refusal::TooLarge,
+        Refusal::Pair,
     ];
 
-    /// Its number, from 1 to 17.
+    /// Its number, from 1 to 18.
     pub fn number(self) -> u32 {
         self as u32
     }
 
-    /// The refusal with this number. The library is proved to answer no others than 1 to 17.
+    /// The refusal with this number. The library is proved to answer no others than 1 to 18.
     pub(crate) fn from_number(number: u64) -> Refusal {
         match number {
-            1..=17 => Refusal::ALL[number as usize - 1],
-            _ => panic!("the library answered refusal {number}, which is not from 1 to 17"),
+            1..=18 => Refusal::ALL[number as usize - 1],
+            _ => panic!("the library answered refusal {number}, which is not from 1 to 18"),
         }
     }
 
@@ -88,7 +92,7 @@ impl Refusal {
             Refusal::Place => "a place does not appear exactly once",
             Refusal::Share => "a group's own share is below 0, or not 0 though no place lies directly in the group",
             Refusal::BytesLeft => "bytes are left after the description",
-            Refusal::State => "the state is not well formed or does not fit the net",
+            Refusal::State => "the state is of another edition than 1 and 2, not well formed, or does not fit the net",
             Refusal::Event => "the event number is not one of the net's",
             Refusal::Impossible => "the event is impossible",
             Refusal::OverRange => "some estimate after the event would be above 16,777,215",
@@ -97,6 +101,7 @@ impl Refusal {
             Refusal::Miscounted => "the head count is below the sum of the estimates there, or above 16,777,215",
             Refusal::NoGroupLeft => "the head count would make a 33rd group",
             Refusal::TooLarge => "some estimate or unplaced number of the state is above 65,535",
+            Refusal::Pair => "a pair of the state has a place out of range or out of order, or an estimate of 0",
         }
     }
 }

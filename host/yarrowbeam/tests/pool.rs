@@ -1,6 +1,6 @@
 //! The pool of three: every call, and every refusal.
 
-use yarrowbeam::{count, fresh, judge, known, older, record, Refusal, Verdict, LARGEST_DESCRIPTION, LARGEST_STATE};
+use yarrowbeam::{count, dense, fresh, judge, known, older, record, sparse, Refusal, Verdict, LARGEST_DESCRIPTION, LARGEST_STATE};
 
 const POOL: [u8; 39] = [
     0x01, 0x03, 0x03, 0x01, 0x01, 0x01, 0x03, 0x03, 0x00, 0x01, 0x00, 0x02, 0x00, 0x03, 0x02, 0x01, 0x01, 0x00, 0x02, 0x00, 0x01,
@@ -82,7 +82,11 @@ fn refusals_of_descriptions() {
         let mut described = [0xA5; 50];
         assert_eq!(count(&description, &FRESH, &[1], 3, &mut described, &mut out), Err(refusal));
         assert_eq!(described, [0xA5; 50]);
-        assert_eq!(older(&description, &FRESH, &mut out), Err(refusal));
+        for call in [older, dense, sparse] {
+            assert_eq!(call(&description, &FRESH, &mut out), Err(refusal));
+            // the description is asked before the state
+            assert_eq!(call(&description, &[2, 3, 1, 0], &mut out), Err(refusal));
+        }
         assert_eq!(out, [0xA5; LARGEST_STATE]);
     }
 }
@@ -95,7 +99,9 @@ fn the_first_fault_that_is_met() {
     assert_eq!(judge(&[0x01, 0x41], &[], 0), Err(Refusal::Size));
     assert_eq!(known(&[0x01, 0x41], &[]), Err(Refusal::Size));
     assert_eq!(count(&[0x01, 0x41], &[], &[], 0, &mut [], &mut []), Err(Refusal::Size));
-    assert_eq!(older(&[0x01, 0x41], &[], &mut []), Err(Refusal::Size));
+    for call in [older, dense, sparse] {
+        assert_eq!(call(&[0x01, 0x41], &[], &mut []), Err(Refusal::Size));
+    }
     // place 0 after place 1 is out of range and out of order: at one number the lowest
     let mut description = POOL;
     description[11] = 0;
@@ -178,6 +184,131 @@ fn states_for_older_observers() {
     }
 }
 
+/// The pool's states while event 1 is recorded three times from fresh, in both editions.
+const DENSE: [[u8; 7]; 4] = [FRESH, [1, 3, 0, 1, 0, 1, 2], [1, 3, 0, 2, 0, 1, 1], [1, 3, 0, 3, 0, 1, 0]];
+const SPARSE: [&[u8]; 4] = [&[2, 3, 0, 1, 3], &[2, 3, 1, 2, 1, 1, 2], &[2, 3, 1, 2, 2, 1, 1], &[2, 3, 1, 2, 3, 1, 0]];
+
+/// What a call writes where it has more room than it needs, and just as much; with a byte less it is refused.
+fn written(call: impl Fn(&mut [u8]) -> Result<usize, Refusal>) -> Vec<u8> {
+    let mut out = [0xA5; LARGEST_STATE];
+    let length = call(&mut out).unwrap();
+    assert_eq!(out[length..], [0xA5; LARGEST_STATE][length..]);
+    let mut exact = vec![0xA5; length];
+    assert_eq!(call(&mut exact[..length - 1]), Err(Refusal::Room));
+    assert_eq!(exact, vec![0xA5; length]);
+    assert_eq!(call(&mut exact), Ok(length));
+    assert_eq!(exact, out[..length]);
+    exact
+}
+
+/// Both editions of a state, from both.
+fn assert_editions(description: &[u8], in_first: &[u8], in_second: &[u8]) {
+    for state in [in_first, in_second] {
+        assert_eq!(written(|out| dense(description, state, out)), in_first);
+        assert_eq!(written(|out| sparse(description, state, out)), in_second);
+    }
+}
+
+#[test]
+fn from_fresh_to_known_in_edition_2() {
+    for (recorded, verdict) in [Verdict::Hold(1), Verdict::Hold(1), Verdict::Allow].into_iter().enumerate() {
+        let state = SPARSE[recorded];
+        assert_editions(&POOL, &DENSE[recorded], state);
+        assert_eq!(judge(&POOL, state, 2), Ok(verdict));
+        assert_eq!(known(&POOL, state), Ok(false));
+        assert_eq!(written(|out| record(&POOL, state, 1, out)), SPARSE[recorded + 1]);
+        assert_eq!(written(|out| older(&POOL, state, out)), DENSE[recorded]);
+    }
+    assert_editions(&POOL, &DENSE[3], SPARSE[3]);
+    assert_eq!(known(&POOL, SPARSE[3]), Ok(true));
+    assert_eq!(judge(&POOL, SPARSE[3], 1), Err(Refusal::Impossible));
+    // an estimate that falls to 0 has no pair any more
+    assert_eq!(written(|out| record(&POOL, SPARSE[1], 2, out)), [2, 3, 1, 3, 1, 1, 2]);
+}
+
+#[test]
+fn own_remainders_of_nested_groups() {
+    // five places: the groups of 9 and of 7 inside it have two each, and one of 2 inside that the last one
+    let nested = [&[1, 5, 1, 0, 1, 1, 9, 3, 0, 1, 0, 2, 1, 7, 3, 0, 3, 0, 4, 1, 2, 1, 0, 5][..], &[1, 1, 1, 0]].concat();
+    assert_eq!(written(|out| fresh(&nested, out)), [1, 5, 0, 0, 0, 0, 2, 3, 7, 5, 0]);
+    assert_editions(&nested, &[1, 5, 0, 0, 0, 0, 2, 3, 7, 5, 0], &[2, 5, 1, 5, 2, 3, 2, 5, 0]);
+    assert_eq!(written(|out| record(&nested, &[2, 5, 1, 5, 2, 3, 2, 5, 0], 1, out)), [2, 5, 1, 5, 2, 3, 1, 5, 0]);
+    // what is unplaced in the innermost group is so in all three
+    assert_editions(&nested, &[1, 5, 0, 0, 0, 0, 0, 3, 9, 7, 2], &[2, 5, 0, 3, 2, 5, 2]);
+    // a sum of remainders may be 16,777,215, and not more
+    let unplaced = |outer: &[u8]| [&[2, 5, 0, 3], outer, &[0, 1]].concat();
+    let in_first = [&[1, 5, 0, 0, 0, 0, 0, 3][..], &LAST, &[1, 1]].concat();
+    assert_editions(&nested, &in_first, &unplaced(&[0xFE, 0xFF, 0xFF, 0x07]));
+    // one place, in a group inside a group that has none of its own
+    let inner = [1, 1, 1, 0, 1, 1, 0, 1, 1, 0, 1, 0, 1, 0];
+    assert_editions(&inner, &[1, 1, 0, 2, 5, 5], &[2, 1, 0, 2, 0, 5]);
+    for call in [older, dense, sparse] {
+        assert_eq!(call(&nested, &unplaced(&LAST), &mut [0; LARGEST_STATE]), Err(Refusal::State));
+        assert_eq!(call(&inner, &[2, 1, 0, 2, 1, 5], &mut [0; LARGEST_STATE]), Err(Refusal::State));
+    }
+}
+
+#[test]
+fn refusals_of_states_in_edition_2() {
+    // the numbers of pairs and of groups, and the pairs; the pool has three places and a group
+    let pairs = |pairs: &[u8]| [&[2, 3, pairs.len() as u8 / 2], pairs, &[1, 0]].concat();
+    let cases = [
+        (Refusal::Pair, pairs(&[0, 1])),
+        (Refusal::Pair, pairs(&[4, 1])),
+        (Refusal::Pair, pairs(&[2, 1, 2, 1])),
+        (Refusal::Pair, pairs(&[2, 1, 1, 1])),
+        (Refusal::Pair, pairs(&[2, 0])),
+        // the first fault decides: what follows may be missing or ill-formed, and what stands before may not
+        (Refusal::Pair, vec![2, 3, 1, 0]),
+        (Refusal::Pair, vec![2, 3, 2, 2, 0, 0x80]),
+        (Refusal::State, vec![2, 3, 1]),
+        (Refusal::State, vec![2, 3, 1, 0x80, 0]),
+        (Refusal::State, vec![2, 3, 1, 2]),
+        (Refusal::State, [&[2, 3, 2, 2], &NEXT[..], &[0]].concat()),
+        (Refusal::State, vec![2, 3, 4, 0]),
+        (Refusal::State, vec![2, 4, 1, 0]),
+        (Refusal::State, vec![3, 3, 1, 0]),
+        (Refusal::State, vec![0, 3, 1, 0]),
+        (Refusal::State, vec![2, 3, 0, 2, 0]),
+        (Refusal::State, [&[2, 3, 0, 1], &NEXT[..]].concat()),
+        (Refusal::State, vec![2, 3, 0, 1, 3, 0]),
+        // edition 1 has no pairs
+        (Refusal::State, vec![1, 3, 1, 0]),
+    ];
+    for (refusal, state) in cases {
+        let (mut described, mut out) = ([0xA5; 50], [0xA5; LARGEST_STATE]);
+        for room in [0, LARGEST_STATE] {
+            let lent = &mut out[..room];
+            assert_eq!(record(&POOL, &state, 0, lent), Err(refusal), "{state:?}");
+            assert_eq!(count(&POOL, &state, &[], 0, &mut described, lent), Err(refusal), "{state:?}");
+            for call in [older, dense, sparse] {
+                assert_eq!(call(&POOL, &state, lent), Err(refusal), "{state:?}");
+            }
+        }
+        assert_eq!(judge(&POOL, &state, 0), Err(refusal), "{state:?}");
+        assert_eq!(known(&POOL, &state), Err(refusal), "{state:?}");
+        assert_eq!((described, out), ([0xA5; 50], [0xA5; LARGEST_STATE]));
+    }
+    // the questions of an event and of older observers follow
+    assert_eq!(judge(&POOL, SPARSE[0], 4), Err(Refusal::Event));
+    let high = [&[2, 3, 1, 2], &LAST[..], &[1, 3]].concat();
+    assert_eq!(record(&POOL, &high, 1, &mut []), Err(Refusal::OverRange));
+    assert_eq!(older(&POOL, &high, &mut []), Err(Refusal::TooLarge));
+    assert_editions(&POOL, &state_of(&LAST, &[3]), &high);
+}
+
+#[test]
+fn the_longest_state() {
+    // 64 places in 32 groups, two in each
+    let groups: Vec<u8> = (1..=32).flat_map(|g| [1, 0, 2, 0, 2 * g - 1, 0, 2 * g]).collect();
+    let description = [&[1, 64, 1, 0, 32][..], &groups, &[0]].concat();
+    let pairs: Vec<u8> = (1..=64).flat_map(|place| [&[place], &LAST[..]].concat()).collect();
+    let in_first = [&[1, 64][..], &LAST.repeat(64), &[32], &LAST.repeat(32)].concat();
+    let in_second = [&[2, 64, 64][..], &pairs, &[32], &LAST.repeat(32)].concat();
+    assert_eq!((in_first.len(), in_second.len()), (387, LARGEST_STATE));
+    assert_editions(&description, &in_first, &in_second);
+}
+
 /// The pool with its places loose, and its state after event 1.
 fn loose_pool() -> (Vec<u8>, [u8; 6]) {
     ([&POOL[..4], &[3], &POOL[8..]].concat(), [1, 3, 0, 1, 0, 0])
@@ -204,6 +335,10 @@ fn a_head_count() {
     }
     assert_eq!(known(described, &state), Ok(true));
     assert_eq!(record(described, &state, 1, &mut out), Err(Refusal::Impossible));
+    // the state keeps its edition
+    let (mut described_again, mut out) = ([0xA5; 39], [0xA5; LARGEST_STATE]);
+    assert_eq!(count(&loose, &[2, 3, 1, 2, 1, 0], &[3, 1, 2], 3, &mut described_again, &mut out), Ok((39, 7)));
+    assert_eq!((&described_again[..], &out[..7]), (described, SPARSE[1]));
     // no place is loose any more, and a state from before the head count does not fit
     assert_eq!(count(described, &state, &[1], 3, &mut [0; 60], &mut out), Err(Refusal::NotLoose));
     assert_eq!(known(described, &loose_pool().1), Err(Refusal::State));

@@ -20,10 +20,11 @@ pub use Rattle.numbers.specs.Number.{largest, form, numberAt, room, writtenAt, 
 pub use Rattle.numbers.specs.Signed.{stored, signed}
 pub use Rattle.codec.specs.declared.Wrote.{Wrote}
 pub use Rattle.codec.specs.declared.Wrote.the-variants.{Bytes}
-pub use Rattle.codec.specs.Reader.{read, passed, passedReply, readReply}
+pub use Rattle.codec.specs.Reader.{read, ok, passed, passedReply, readReply}
 pub use Rattle.codec.specs.Places.{placeAt, placeReply}
 pub use Rattle.codec.specs.Output.{answer, left, wroteReply, writtenReply, Pair, bothAnswer, descriptionLeft, stateLeft, wroteBothReply}
 pub use Rattle.net.specs.declared.Net.{Net}
+pub use Rattle.net.specs.declared.Edition.{Edition}
 pub use Rattle.net.specs.declared.Observer.{Observer}
 pub use Rattle.net.specs.declared.Checked.{Checked}
 pub use Rattle.net.specs.declared.Checked.the-variants.{Good}
@@ -41,9 +42,11 @@ pub use Rattle.description.specs.Read.{longestDescription, descriptionRead, net
 pub use Rattle.description.specs.Writing.{written}
 pub use Rattle.description.specs.Full.{Full}
 pub use Rattle.limits.specs.Limits.{largestSum}
+pub use Rattle.states.specs.States.{Restored, state}
 pub use Rattle.states.specs.States.Writing.{Fit}
+pub use Rattle.states.specs.States.Arrays.{stateAt, stateRead, stateReply}
 pub use Rattle.states.specs.States.Nets.{longestState, saved}
-pub use Rattle.observer.specs.Bytes.{describedUpTo, described, stateUpTo, stateIn, freshReply, recordReply, judgeReply, knownReply, countReply, olderReply}
+pub use Rattle.observer.specs.Bytes.{describedUpTo, described, restoredIn, stateIn, olderStateIn, freshReply, recordReply, judgeReply, knownReply, countReply, olderReply, convertedReply}
 pub use Rattle.values.specs.Values.{bothCheck, restoredObserver, observerOutput, recordedObserver, observerJudged, observerKnown, observerUnplaced, unplacedOf}
 pub use Rattle.host.specs.Numbers.{refusalNumber, wroteNumber, wroteBothNumber, answerNumber, knownNumber}
-pub use Rattle.promises.specs.Lists.{onBytes, host, keptDescription, keptState, onValues, memory}
+pub use Rattle.promises.specs.Lists.{withState, inEdition, onBytes, host, keptDescription, keptState, onValues, memory}

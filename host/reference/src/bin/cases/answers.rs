@@ -1,8 +1,8 @@
 //! What the program must say of a case.
 
 use crate::Call;
-use reference::{count, fresh, judge, known, older, read_description, read_state, record, write_description, write_state};
-use reference::{Refusal, State, Verdict};
+use reference::{count, dense, fresh, judge, known, older, read_description, read_state, record, sparse};
+use reference::{write_description, write_state, Net, Refusal, State, Verdict};
 
 /// What stands after the label. A call of the observer is answered twice, on bytes and on values in memory.
 pub fn said(d: &[u8], s: &[u8], call: Call, event: u32, room: u32) -> String {
@@ -21,14 +21,23 @@ pub fn counted(d: &[u8], s: &[u8], places: &[u8], tokens: u32, rooms: [u32; 2]) 
     let answer = || {
         let net = read_description(d)?;
         let (net, state) = count(&net, &read_state(&net, s)?, places, tokens)?;
-        Ok(format!("{},{}", fitting(&write_description(&net), rooms[0])?, written(&state, rooms[1])?))
+        Ok(format!("{},{}", fitting(&write_description(&net), rooms[0])?, written(&net, &state, rooms[1])?))
     };
     words(answer())
 }
 
-/// What stands after the label of a state for older observers, which is answered on bytes alone.
-pub fn for_older(d: &[u8], s: &[u8], room: u32) -> String {
-    let answer = || fitting(&older(&read_state(&read_description(d)?, s)?)?, room);
+/// What stands after the label of a call that writes the same state again, which is answered on bytes alone.
+pub fn rewritten(d: &[u8], s: &[u8], call: Call, room: u32) -> String {
+    let answer = || {
+        let net = read_description(d)?;
+        let state = read_state(&net, s)?;
+        let bytes = match call {
+            Call::Older => older(&state)?,
+            Call::Dense => dense(&state),
+            _ => sparse(&net, &state),
+        };
+        fitting(&bytes, room)
+    };
     words(answer())
 }
 
@@ -56,11 +65,11 @@ fn changed(d: &[u8], at: usize) -> String {
 fn answered(d: &[u8], s: &[u8], call: Call, event: u32, room: u32) -> Result<String, Refusal> {
     let net = read_description(d)?;
     if let Call::Fresh = call {
-        return written(&fresh(&net), room);
+        return written(&net, &fresh(&net), room);
     }
     let state = read_state(&net, s)?;
     match call {
-        Call::Record => written(&record(&net, &state, event)?, room),
+        Call::Record => written(&net, &record(&net, &state, event)?, room),
         Call::Judge => Ok(match judge(&net, &state, event)? {
             Verdict::Allow => " allow".to_string(),
             Verdict::Hold(limit) => format!(" hold {limit}"),
@@ -69,8 +78,8 @@ fn answered(d: &[u8], s: &[u8], call: Call, event: u32, room: u32) -> Result<Str
     }
 }
 
-fn written(state: &State, room: u32) -> Result<String, Refusal> {
-    fitting(&write_state(state), room)
+fn written(net: &Net, state: &State, room: u32) -> Result<String, Refusal> {
+    fitting(&write_state(net, state), room)
 }
 
 /// The bytes, where there is room for them.

@@ -3,10 +3,10 @@
 use crate::random::Random;
 use crate::{Call, Cases};
 use reference::description::{Group, Limit};
-use reference::{fresh, read_description, record, write_description, write_state, Net, State, POOL};
+use reference::{dense, fresh, read_description, record, write_description, write_state, Edition, Net, State, POOL};
 
 /// More room than any state of the cases needs.
-pub const ROOM: u32 = 400;
+pub const ROOM: u32 = 500;
 
 /// The fresh state of the pool.
 const POOL_STATE: [u8; 7] = [0x01, 0x03, 0x00, 0x00, 0x00, 0x01, 0x03];
@@ -42,13 +42,13 @@ impl Cases {
         self.add(&format!("{label}, fresh"), d, &[], Call::Fresh, 0, ROOM);
         let net = read_description(d).unwrap();
         let mut state = fresh(&net);
-        self.known(label, d, &write_state(&state));
+        self.known(label, d, &write_state(&net, &state));
         for &event in events {
-            self.event(label, d, &write_state(&state), event);
+            self.event(label, d, &write_state(&net, &state), event);
             if let Ok(next) = record(&net, &state, event) {
                 state = next;
             }
-            self.known(label, d, &write_state(&state));
+            self.known(label, d, &write_state(&net, &state));
         }
     }
 }
@@ -84,8 +84,9 @@ pub fn net(homes: &[usize], groups: &[(usize, u32)], events: &[&[Arc]], limits: 
     })
 }
 
+/// A state in edition 1, fitting or not.
 pub fn state(estimates: &[u32], unplaced: &[u32]) -> Vec<u8> {
-    write_state(&State { estimates: estimates.to_vec(), unplaced: unplaced.to_vec() })
+    dense(&State { edition: Edition::First, estimates: estimates.to_vec(), unplaced: unplaced.to_vec() })
 }
 
 /// The pool of three, how much room a call has, and numbers of no event.
@@ -109,9 +110,12 @@ fn faulty_states(cases: &mut Cases) {
             cases.add(&format!("state with {fault}, call {}", call as u32), &POOL, bytes, call, 1, ROOM);
         }
         cases.older(&format!("state with {fault}, older"), &POOL, bytes, ROOM);
+        cases.dense(&format!("state with {fault}, dense"), &POOL, bytes, ROOM);
+        cases.sparse(&format!("state with {fault}, sparse"), &POOL, bytes, ROOM);
     };
     check("edition 0", &[0x00, 0x03, 0x00, 0x00, 0x00, 0x01, 0x03]);
     check("edition 2", &[0x02, 0x03, 0x00, 0x00, 0x00, 0x01, 0x03]);
+    check("edition 3", &[0x03, 0x03, 0x00, 0x00, 0x00, 0x01, 0x03]);
     check("two places", &[0x01, 0x02, 0x00, 0x00, 0x01, 0x03]);
     check("four places", &state(&[0, 0, 0, 0], &[3]));
     check("no group", &state(&[0, 0, 0], &[]));
@@ -283,21 +287,24 @@ fn refused_descriptions(cases: &mut Cases) {
         }
         cases.count(&format!("description refused {refusal}, count"), &d, &[0x07], &[], 16_777_216, [0, 0]);
         cases.older(&format!("description refused {refusal}, older"), &d, &[0x07], 0);
+        cases.dense(&format!("description refused {refusal}, dense"), &d, &[0x07], 0);
+        cases.sparse(&format!("description refused {refusal}, sparse"), &d, &[0x07], 0);
     }
 }
 
-/// Nets of many shapes, each with its fresh state and a state that no list of calls gave.
+/// Nets of many shapes, each with its fresh state and a state that no list of calls gave, which is also written in edition 2.
 fn many_shapes(cases: &mut Cases) {
     let mut random = Random(20_261_115);
     for number in 0..60 {
         let (places, events, groups) = (1 + random.below(9), 1 + random.below(4), random.below(6));
         let limits = random.below(4);
         let (net, state) = random.net_and_state(places, events, groups, limits);
-        let (label, d, s) = (format!("net {number}"), described(&net), write_state(&state));
+        let (label, d, s) = (format!("net {number}"), described(&net), write_state(&net, &state));
         cases.add(&format!("{label}, fresh"), &d, &[], Call::Fresh, 0, ROOM);
         for event in 1..=events {
             cases.event(&label, &d, &s, event);
         }
         cases.known(&label, &d, &s);
+        cases.sparse(&format!("{label}, sparse"), &d, &s, ROOM);
     }
 }

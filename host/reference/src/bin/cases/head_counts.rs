@@ -1,8 +1,9 @@
 //! The cases of head counts.
 
 use crate::calls::{net, state, ROOM};
+use crate::editions::in_second;
 use crate::Cases;
-use reference::{count, fresh, read_description, record, write_description, write_state};
+use reference::{count, fresh, read_description, record, write_description, write_state, Edition};
 
 pub fn add(cases: &mut Cases) {
     accepted(cases);
@@ -10,7 +11,8 @@ pub fn add(cases: &mut Cases) {
     rooms(cases);
     groups(cases);
     longest(cases);
-    one_after_the_other(cases);
+    one_after_the_other(cases, "carts in turn", Edition::First);
+    one_after_the_other(cases, "carts in turn in edition 2", Edition::Second);
 }
 
 /// The places 1, 2 and 4 are loose; the places 3 and 6 lie in a group, and 5 and 7 in one inside it.
@@ -91,32 +93,34 @@ fn groups(cases: &mut Cases) {
     }
 }
 
-/// A head count that leaves the longest state: 387 bytes.
+/// A head count that leaves the longest state: 387 bytes, or 452 in edition 2.
 fn longest(cases: &mut Cases) {
     let homes: Vec<usize> = (0..64).map(|p| if p < 62 { 1 + p / 2 } else { 0 }).collect();
     let d = net(&homes, &[(0, 16_777_215); 31], &[&[]], &[]);
     let s = state(&[2_097_152; 64], &[2_097_152; 31]);
-    assert_eq!(s.len() + 4, 387);
-    for room in [386, 387] {
-        cases.count(&format!("the longest state, count in {room}"), &d, &s, &[64, 63], 16_777_215, [ROOM, room]);
+    let second = in_second(&d, &s);
+    assert_eq!([s.len() + 4, second.len() + 4], [387, 452]);
+    for (room, s) in [(386, &s), (387, &s), (451, &second), (452, &second)] {
+        cases.count(&format!("the longest state, count in {room}"), &d, s, &[64, 63], 16_777_215, [ROOM, room]);
     }
 }
 
-/// Two head counts and events between them, from fresh: each call gets what the one before it left.
-fn one_after_the_other(cases: &mut Cases) {
+/// Two head counts and events between them, from fresh: each call gets what the one before it left, in this edition.
+fn one_after_the_other(cases: &mut Cases, label: &str, edition: Edition) {
     let mut net = read_description(&carts()).unwrap();
     let mut state = fresh(&net);
+    state.edition = edition;
     for (event, places, tokens) in [(1, &[4, 1][..], 4), (2, &[2], 3), (3, &[1], 1)] {
-        let (d, s) = (write_description(&net), write_state(&state));
-        cases.event("carts in turn", &d, &s, event);
+        let (d, s) = (write_description(&net), write_state(&net, &state));
+        cases.event(label, &d, &s, event);
         if let Ok(next) = record(&net, &state, event) {
             state = next;
         }
-        let s = write_state(&state);
-        cases.counts("carts in turn", &d, &s, &[(places, tokens)]);
+        let s = write_state(&net, &state);
+        cases.counts(label, &d, &s, &[(places, tokens)]);
         if let Ok(next) = count(&net, &state, places, tokens) {
             (net, state) = next;
         }
-        cases.known("carts in turn", &write_description(&net), &write_state(&state));
+        cases.known(label, &write_description(&net), &write_state(&net, &state));
     }
 }

@@ -6,6 +6,7 @@
 mod answers;
 mod calls;
 mod descriptions;
+mod editions;
 mod head_counts;
 mod older;
 mod one_place;
@@ -31,6 +32,8 @@ enum Call {
     Changed,
     Count,
     Older,
+    Dense,
+    Sparse,
 }
 
 /// The list of cases so far, and a line for each.
@@ -54,10 +57,22 @@ impl Cases {
         self.put([label.as_bytes(), d, s, places], numbers, &format!("{label}:{said}"));
     }
 
-    /// The state for older observers.
+    /// The same state written again: for older observers, in edition 1 or in edition 2.
+    fn rewrite(&mut self, label: &str, d: &[u8], s: &[u8], call: Call, room: u32) {
+        let said = answers::rewritten(d, s, call, room);
+        self.put([label.as_bytes(), d, s, &[]], [call as u32, 0, 0, room], &format!("{label}:{said}"));
+    }
+
     fn older(&mut self, label: &str, d: &[u8], s: &[u8], room: u32) {
-        let said = answers::for_older(d, s, room);
-        self.put([label.as_bytes(), d, s, &[]], [Call::Older as u32, 0, 0, room], &format!("{label}:{said}"));
+        self.rewrite(label, d, s, Call::Older, room);
+    }
+
+    fn dense(&mut self, label: &str, d: &[u8], s: &[u8], room: u32) {
+        self.rewrite(label, d, s, Call::Dense, room);
+    }
+
+    fn sparse(&mut self, label: &str, d: &[u8], s: &[u8], room: u32) {
+        self.rewrite(label, d, s, Call::Sparse, room);
     }
 
     fn put(&mut self, parts: [&[u8]; 4], numbers: [u32; 4], line: &str) {
@@ -79,6 +94,7 @@ fn main() {
     head_counts::add(&mut cases);
     older::add(&mut cases);
     one_place::add(&mut cases);
+    editions::add(&mut cases);
     let mut files = std::env::args().skip(1);
     let mut file = || files.next().expect("cases STDIN STDOUT");
     assert!(cases.input.len() <= LONGEST, "{} bytes", cases.input.len());

@@ -62,7 +62,7 @@ impl Cases {
         self.count(&label, d, s, places, n, [ROOM, ROOM]);
         let net = read_description(d).ok()?;
         let (net, state) = count(&net, &read_state(&net, s).ok()?, places, n).ok()?;
-        let written = (write_description(&net), write_state(&state));
+        let written = (write_description(&net), write_state(&net, &state));
         self.known(&label, &written.0, &written.1);
         Some(written)
     }

@@ -1,7 +1,7 @@
 //! Nets and states that look random, the same in each run.
 
 use reference::description::{Group, Limit};
-use reference::{Net, State};
+use reference::{Edition, Net, State};
 
 pub struct Random(pub u64);
 
@@ -22,7 +22,7 @@ impl Random {
         let limits = self.limits(limits, places);
         let estimates = (0..places).map(|_| self.below(4)).collect();
         let groups = around.iter().zip(&counts).map(|(&around, &count)| Group { around, count }).collect();
-        (Net { homes, groups, takes, gives, limits }, State { estimates, unplaced })
+        (Net { homes, groups, takes, gives, limits }, State { edition: Edition::First, estimates, unplaced })
     }
 
     /// The group around each group: none, the group before, or one around that.
