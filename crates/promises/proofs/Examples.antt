@@ -1,4 +1,5 @@
--- The ten proved cases of 01 ("The pool of three"), one of a head count (02, (i)), and one of both editions (02, (vi)), over the definitions that the contracts cite.
+-- The ten proved cases of 01 ("The pool of three"), one of a head count (02, (i)), and one of both editions (02, (vi)),
+-- over the definitions that the contracts cite.
 use Prim.Native.Nat.{ℕ}
 use mathlib.Core.Path.{_≡_, refl}
 use mathlib.Core.List.{List, [], _∷_, map}
@@ -116,7 +117,8 @@ count-holds = refl
 -- after event 1 the pool has a token in place 2, and two are unplaced; with exactly the room that it needs, the state is converted to edition 2,
 -- event 1 is recorded in that edition, and the state is converted back
 pub convert-holds : map (λ list. keptState poolBytes list)
-    ((recording 1 7 ∷ converting 2 7 ∷ []) ∷ (recording 1 7 ∷ converting 2 7 ∷ recording 1 7 ∷ []) ∷ (recording 1 7 ∷ converting 2 7 ∷ recording 1 7 ∷ converting 1 7 ∷ []) ∷ [])
+    ((recording 1 7 ∷ converting 2 7 ∷ []) ∷ (recording 1 7 ∷ converting 2 7 ∷ recording 1 7 ∷ []) ∷
+        (recording 1 7 ∷ converting 2 7 ∷ recording 1 7 ∷ converting 1 7 ∷ []) ∷ [])
     ≡ (0x02 ∷ 0x03 ∷ 0x01 ∷ 0x02 ∷ 0x01 ∷ 0x01 ∷ 0x02 ∷ [])
     ∷ (0x02 ∷ 0x03 ∷ 0x01 ∷ 0x02 ∷ 0x02 ∷ 0x01 ∷ 0x01 ∷ [])
     ∷ (0x01 ∷ 0x03 ∷ 0x00 ∷ 0x02 ∷ 0x00 ∷ 0x01 ∷ 0x01 ∷ [])

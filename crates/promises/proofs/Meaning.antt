@@ -73,7 +73,8 @@ module _ (net : Net) (checked : netCheck net ≡ value tt) where
   known-is : (x : Restored) → Fit bound (net .places) (groupsOf (net .groups)) (x .state)
       → observerKnown net (observerOf (x .edition) net (x .state)) ≡ value (known (netOf net) (x .state))
   unfolding observerKnown
-  known-is x fit = rw (both-good (x .edition) net checked (x .state) fit) (ap value (known-alike (netOf net) (state-observer (x .edition) net checked (x .state) fit)))
+  known-is x fit = rw (both-good (x .edition) net checked (x .state) fit)
+      (ap value (known-alike (netOf net) (state-observer (x .edition) net checked (x .state) fit)))
 
 -- a reply to the state alone
 state-alone : {B : Type 0} (r : Reply Restored) (next : State → Reply B) → ((r >>= λ x. value (x .state)) >>= next) ≡ (r >>= λ x. next (x .state))
