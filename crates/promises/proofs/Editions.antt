@@ -76,7 +76,7 @@ module _ (d : List ℕ) (net : Net) (says : described d ≡ value net) (s : Stat
 
       go : (r : Reply State) → headCounted net s list n ≡ r
           → ((r >>= λ t. value (both description (saved (bytes .edition) later t))) >>= pairIn edition)
-              ≡ (r >>= λ t. value (both description (saved edition later t)))
+          ≡ (r >>= λ t. value (both description (saved edition later t)))
       go (refusal m) u = refl
       go (value t) u =
           let left = counts .leaves t u in

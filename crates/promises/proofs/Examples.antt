@@ -118,7 +118,7 @@ count-holds = refl
 -- event 1 is recorded in that edition, and the state is converted back
 pub convert-holds : map (λ list. keptState poolBytes list)
     ((recording 1 7 ∷ converting 2 7 ∷ []) ∷ (recording 1 7 ∷ converting 2 7 ∷ recording 1 7 ∷ []) ∷
-        (recording 1 7 ∷ converting 2 7 ∷ recording 1 7 ∷ converting 1 7 ∷ []) ∷ [])
+    (recording 1 7 ∷ converting 2 7 ∷ recording 1 7 ∷ converting 1 7 ∷ []) ∷ [])
     ≡ (0x02 ∷ 0x03 ∷ 0x01 ∷ 0x02 ∷ 0x01 ∷ 0x01 ∷ 0x02 ∷ [])
     ∷ (0x02 ∷ 0x03 ∷ 0x01 ∷ 0x02 ∷ 0x02 ∷ 0x01 ∷ 0x01 ∷ [])
     ∷ (0x01 ∷ 0x03 ∷ 0x00 ∷ 0x02 ∷ 0x00 ∷ 0x01 ∷ 0x01 ∷ [])

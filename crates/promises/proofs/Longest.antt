@@ -99,7 +99,7 @@ full-read : (read (parts bound fullDescription) >>= λ x. stateIn (netIn x) full
 unfolding fullDescription fullState valuesBytes pairsBytes rowBytes joined flatMap form groups number Stored.number Stored.front Stored.before
     Stored.small parts head limitsToEnd many end outermost memberList members innerGroups place group event limit entries row
     risingPlace arc term signedWithin signed shared shareFits hasPlace every direct sum inner wholeState state stateFrom saved savedIn countedValues
-        States.value
+    States.value
     sparseEstimates pairs pair remaindersFit gathered among inside
     ask possible raises raise own inRange next moved less top limitSum sumℤ heaviest heaviestPlace amount filled
 full-read = refl
