@@ -46,7 +46,8 @@ pub use Rattle.states.specs.States.{Restored, state}
 pub use Rattle.states.specs.States.Writing.{Fit}
 pub use Rattle.states.specs.States.Arrays.{stateAt, stateRead, stateReply}
 pub use Rattle.states.specs.States.Nets.{longestState, saved}
-pub use Rattle.observer.specs.Bytes.{describedUpTo, described, restoredIn, stateIn, olderStateIn, freshReply, recordReply, judgeReply, knownReply, countReply, olderReply, convertedReply}
+pub use Rattle.observer.specs.Bytes.{describedUpTo, described, restoredIn, stateIn, olderStateIn}
+pub use Rattle.observer.specs.Bytes.{freshReply, recordReply, judgeReply, knownReply, countReply, olderReply, convertedReply}
 pub use Rattle.values.specs.Values.{bothCheck, restoredObserver, observerOutput, recordedObserver, observerJudged, observerKnown, observerUnplaced, unplacedOf}
 pub use Rattle.host.specs.Numbers.{refusalNumber, wroteNumber, wroteBothNumber, answerNumber, knownNumber}
 pub use Rattle.promises.specs.Lists.{withState, inEdition, onBytes, host, keptDescription, keptState, onValues, memory}
