@@ -1,4 +1,5 @@
 // One number of a walk over bytes that are measured or written.
+use numbers::Written;
 ghost use mathlib.Core.Path.{_≡_};
 ghost use Rattle.codec.specs.Walk.{numberEnd, putAt};
 
@@ -8,11 +9,14 @@ pub fn put_number(out: &mut [u8], at: usize, number: u32, writing: bool) -> usiz
     ensures position { λ r. ⌜ r ≡ numberEnd at number ⌝ }
     ensures output { λ _. ⌜ now (out .exit) ≡ putAt writing (now (out .entry)) at number ⌝ }
 {
-    let end = number_end(at, number);
-    if writing {
-        numbers::write_number(out, at, number);
+    if !writing {
+        return number_end(at, number);
     }
-    end
+    let written = numbers::write_number(out, at, number);
+    match written {
+        Written::Next(next) => next,
+        Written::Full => number_end(at, number),
+    }
 }
 
 // The position after a number, or the same one if no position is so large.
