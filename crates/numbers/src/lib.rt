@@ -101,22 +101,6 @@ pub fn write_number(out: &mut [u8], at: usize, number: u32) -> Written
     ensures { λ r. ⌜ r ≡ writtenAt (now (out .entry)) at number ⌝ }
     ensures { λ _. ⌜ now (out .exit) ≡ writeAt (now (out .entry)) at number ⌝ }
 {
-    if 128 <= number {
-        return write_groups(out, at, number);
-    }
-    if out.len() <= at {
-        return Written::Full;
-    }
-    out[at] = number as u8;
-    let next = at + 1;
-    Written::Next(next)
-}
-
-// The same for a number of any length, group by group.
-fn write_groups(out: &mut [u8], at: usize, number: u32) -> Written
-    ensures { λ r. ⌜ r ≡ writtenAt (now (out .entry)) at number ⌝ }
-    ensures { λ _. ⌜ now (out .exit) ≡ writeAt (now (out .entry)) at number ⌝ }
-{
     let size = number_length(number);
     if out.len() < at {
         return Written::Full;

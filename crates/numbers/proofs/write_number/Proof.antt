@@ -1,56 +1,92 @@
--- `numbers::write_number` meets its contract: several groups, no room, or one group.
-use mathlib.Core.Path.{ap}
+-- `numbers::write_number` meets its contract. The loop's invariant: what is left of storing the number's form is to store that of `rest` from `next` on. The measure
+-- is `rest`.
 use native.Mathlib.Omega.{arith}
 use borrow.Author.Needs.{needs}
 use denote.Ref.{now}
-use lib.ListN.{length}
-use Rattle.numbers.proofs.Number.{form-last, form-length-bounds}
-use Rattle.numbers.proofs.Writing.{no-room, writing-first, writing-last}
+use lib.ListN.{length-set}
+use Rattle.numbers.proofs.Writing.{no-room, Writing, writing-first, writing-inside, writing-more, writing-last}
 use Rattle.numbers.proofs.write_number.Statement.{statement}
 use Rattle.numbers.proofs.write_number.Tie as tie
 
-write-groups-requires : tie.Need-write-groups-requires
-write-groups-requires c κs = search needs
+abbrev Inv-loop : tie.InvT-loop
+Inv-loop out₀ at number size next₀ rest₀ out next rest = Writing out₀ at number out next rest
 
-same-length : tie.Need-same-length
-same-length c = search needs
+abbrev μ-loop : tie.MeasureT-loop
+μ-loop out₀ at number size next₀ rest₀ out next rest = rest
 
-returns : tie.Need-returns
-returns c = search needs
+number-length-requires : tie.Need-number-length-requires Inv-loop μ-loop
+number-length-requires c κs = search needs
 
-returns-2 : tie.Need-returns-2
+returns : tie.Need-returns Inv-loop μ-loop
+returns c =
+    let args = c .before .before .before .args in
+    no-room (now (args .out)) (args .at) (args .number) (omega arith)
+
+sub-if2 : tie.Need-sub-if2 Inv-loop μ-loop
+sub-if2 c = omega arith
+
+returns-2 : tie.Need-returns-2 Inv-loop μ-loop
 returns-2 c =
-    let args = c .before .before .before .args in
-    no-room (now (args .out)) (args .at) (args .number) (omega (arith, form-length-bounds (args .number)))
+    let args = c .before .before .before .before .args in
+    no-room (now (args .out)) (args .at) (args .number) (omega arith)
 
-cast-out : tie.Need-cast-out
-cast-out c = search needs
+loop-holds : tie.Need-loop-holds Inv-loop μ-loop
+loop-holds c =
+    let args = c .before .before .before .before .args in
+    writing-first (now (args .out)) (args .at) (args .number) (omega arith) (omega arith)
 
-slice-write-out : tie.Need-slice-write-out
-slice-write-out c = search needs
+add-out : tie.Need-add-out Inv-loop μ-loop
+add-out c = omega arith
 
-add-next : tie.Need-add-next
-add-next c = search needs
+cast-out : tie.Need-cast-out Inv-loop μ-loop
+cast-out c = omega arith
 
-same-length-2 : tie.Need-same-length-2
-same-length-2 c = search needs
+slice-write-out : tie.Need-slice-write-out Inv-loop μ-loop
+slice-write-out c = writing-inside (c .before .loop .inv)
 
-returns-3 : tie.Need-returns-3
-returns-3 c =
-    let args = c .before .before .before .args in
-    let one = ap length (form-last (args .number) (omega arith)) in
-    writing-last (writing-first (now (args .out)) (args .at) (args .number) (omega arith) (omega arith)) (omega arith)
+add-next : tie.Need-add-next Inv-loop μ-loop
+add-next c = omega (arith, writing-inside (c .before .loop .inv))
+
+loop-less : tie.Need-loop-less Inv-loop μ-loop
+loop-less c = omega arith
+
+loop-again : tie.Need-loop-again Inv-loop μ-loop
+loop-again c = writing-more (c .before .loop .inv) (omega arith)
+
+cast-out-2 : tie.Need-cast-out-2 Inv-loop μ-loop
+cast-out-2 c = omega arith
+
+slice-write-out-2 : tie.Need-slice-write-out-2 Inv-loop μ-loop
+slice-write-out-2 c = writing-inside (c .before .loop .inv)
+
+add-after : tie.Need-add-after Inv-loop μ-loop
+add-after c = omega (arith, writing-inside (c .before .loop .inv))
+
+same-length : tie.Need-same-length Inv-loop μ-loop
+same-length c = simp length-set (c .before .loop .inv .same-length)
+
+returns-3 : tie.Need-returns-3 Inv-loop μ-loop
+returns-3 c = writing-last (c .before .loop .inv) (omega arith)
 
 pub write-number-spec : {M : Type 1} → statement M
 write-number-spec =
     tie.close
     (tie.spec
-    write-groups-requires
-    same-length
+    Inv-loop
+    μ-loop
+    number-length-requires
     returns
+    sub-if2
     returns-2
+    loop-holds
+    add-out
     cast-out
     slice-write-out
     add-next
-    same-length-2
+    loop-less
+    loop-again
+    cast-out-2
+    slice-write-out-2
+    add-after
+    same-length
     returns-3)
