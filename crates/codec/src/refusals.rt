@@ -2,7 +2,7 @@
 
 // "Is each stored number complete, shortest and small enough?"
 pub const ILL_FORMED: u32 = 1;
-// "Is the description's edition 1?", or 2
+// "Is the description's edition 1?"
 pub const OTHER_EDITION: u32 = 2;
 // "Are sizes, list lengths, groups and depth within bounds (arcs and terms at most P)?"
 pub const OUT_OF_BOUNDS: u32 = 3;
@@ -36,9 +36,3 @@ pub const NO_GROUP_LEFT: u32 = 16;
 pub const TOO_LARGE: u32 = 17;
 // Are the places of a state's pairs in order and range, and their estimates not zero?
 pub const UNFIT_PAIR: u32 = 18;
-// Is the low of a range at most its high?
-pub const LOW_ABOVE_HIGH: u32 = 19;
-// Does no range stand inside a group, and no group inside a range?
-pub const NESTED_RANGE: u32 = 20;
-// Has each range equal ends, so that edition 1 can describe it?
-pub const UNEQUAL_ENDS: u32 = 21;
