@@ -1,5 +1,7 @@
 // Cases from standard input, each a call with its label: a line for each, with what the call
 // answers.
+#![tactic(auto)]
+
 mod calls;
 mod counts;
 mod descriptions;

@@ -1,4 +1,6 @@
 // What readers and writers of bytes answer, and the refusals by name (01, "Questions put in turn").
+#![tactic(auto)]
+
 mod put;
 pub mod refusals;
 mod rising;
@@ -9,14 +11,14 @@ pub use put::put_number;
 pub use rising::{PlaceRead, read_place};
 
 // How far a reader came that keeps what it read elsewhere: the position after it, or its refusal.
-#[derive(Drop)]
+#[derive(Clone, Copy)]
 pub enum Passed {
     To(usize),
     Refused(u32),
 }
 
 // The answer of a call that writes: the number of bytes written, or its refusal.
-#[derive(Drop)]
+#[derive(Clone, Copy)]
 pub enum Wrote {
     Bytes(usize),
     Refused(u32),
@@ -24,7 +26,7 @@ pub enum Wrote {
 
 // The answer of a call that writes a description and a state: the number of bytes of each, or its
 // refusal.
-#[derive(Drop)]
+#[derive(Clone, Copy)]
 pub enum WroteBoth {
     Bytes(usize, usize),
     Refused(u32),

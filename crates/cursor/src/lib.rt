@@ -2,6 +2,8 @@
 // position in it. The borrow checker covers no function over such a struct, so those over it are few and
 // thin, and each is proved by hand; what they call takes a plain slice and is covered. Whoever calls
 // `header_numbers` sees no cursor.
+#![tactic(auto)]
+
 ghost use Rattle.std.specs.Prelude.{◌≡◌};
 ghost use Rattle.numbers.specs.Number.{number_at};
 ghost use Rattle.cursor.specs.Cursors.{position_after, behind, header_numbers};
@@ -9,7 +11,7 @@ ghost use Rattle.cursor.specs.Cursors.{position_after, behind, header_numbers};
 use numbers::Read;
 
 // The description that is lent, and the position of the next number.
-#[derive(Drop)]
+#[derive(Clone, Copy)]
 pub struct Cursor<'a> {
     pub description: &'a [u8],
     pub at: usize,
@@ -35,7 +37,7 @@ impl<'a> Cursor<'a> {
 }
 
 // The first four numbers of a description, each as it was found.
-#[derive(Drop)]
+#[derive(Clone, Copy)]
 pub struct HeaderNumbers {
     pub edition: Read,
     pub places: Read,

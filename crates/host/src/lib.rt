@@ -1,5 +1,7 @@
 // The host's functions: the observer's calls on bytes as C calls them (include/yarrowbeam.h). An
 // answer is one number: what 01 has for it, or minus the number of a refusal.
+#![tactic(auto)]
+
 ghost use Rattle.std.specs.Prelude.{◌≡◌, length};
 ghost use Rattle.codec.specs.Output.{answer, left, both_answer, description_left, state_left};
 ghost use Rattle.net.specs.Answers.{answer_of, known_of};

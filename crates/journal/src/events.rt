@@ -17,7 +17,7 @@ const LONGEST_LINE: usize = 1086;
 
 // Why a pass stops: the output has no room for another line; more bytes are needed to tell the next
 // number; or no stored number stands there, and that is put out.
-#[derive(Drop)]
+#[derive(Clone, Copy)]
 pub enum Stop {
     Full,
     Short,
@@ -25,7 +25,7 @@ pub enum Stop {
 }
 
 // Why a pass stopped, the position after the events that it passed, and how many bytes were put out.
-#[derive(Drop)]
+#[derive(Clone, Copy)]
 pub struct Pass {
     pub stop: Stop,
     pub at: usize,

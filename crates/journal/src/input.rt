@@ -5,7 +5,7 @@ ghost use Rattle.journal.specs.Passing.{Tells};
 use numbers::{LONGEST_NUMBER, Read};
 
 // A number and the position after it; no stored number; or more bytes are needed to tell.
-#[derive(Drop)]
+#[derive(Clone, Copy)]
 pub enum Next {
     Number(u32, usize),
     IllFormed,

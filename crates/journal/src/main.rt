@@ -2,6 +2,8 @@
 // standard input; a line for each event to standard output. What is put out at each step is proved to
 // be what specs/Printed.antt says; here it is read and written. The net is read once and one state
 // kept, however many events there are.
+#![tactic(auto)]
+
 mod events;
 mod input;
 mod lines;

@@ -14,14 +14,14 @@ use codec::refusals;
 use net::{Checked, Net, Observer};
 
 // Where the description starts and its size, or how many bytes were put out.
-#[derive(Drop)]
+#[derive(Clone, Copy)]
 pub enum Located {
     At(usize, usize),
     Refused(usize),
 }
 
 // Whether the description is refused, its net, a fresh observer, and how many bytes were put out.
-#[derive(Drop)]
+#[derive(Clone, Copy)]
 pub struct Opened {
     pub checked: Checked,
     pub net: Net,

@@ -7,7 +7,7 @@ use libc::{EINTR, STDERR_FILENO, STDIN_FILENO, STDOUT_FILENO};
 
 // What one call moved: some bytes; none, at the input's end; nothing, since it was interrupted; or it
 // failed, which was told.
-#[derive(Drop)]
+#[derive(Clone, Copy)]
 pub enum Once {
     Moved(usize),
     End,
@@ -16,7 +16,7 @@ pub enum Once {
 }
 
 // How many bytes a read brought; the input's end; or a failure that was told.
-#[derive(Drop)]
+#[derive(Clone, Copy)]
 pub enum More {
     Bytes(usize),
     End,
@@ -24,7 +24,7 @@ pub enum More {
 }
 
 // How many bytes the buffer has; or a failure that was told.
-#[derive(Drop)]
+#[derive(Clone, Copy)]
 pub enum Filled {
     To(usize),
     Failed,
@@ -152,7 +152,7 @@ fn failure(stream: &[u8]) -> Once
 
 // Reads `count` bytes and drops them, and perhaps some after them. All were there; the input ended
 // before; or a failure that was told.
-#[derive(Drop)]
+#[derive(Clone, Copy)]
 pub enum Skipped {
     All,
     End,

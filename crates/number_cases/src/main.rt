@@ -1,5 +1,7 @@
 // Stored numbers at their boundaries: written, refused for want of room, read, and signed; a line
 // for each case.
+#![tactic(auto)]
+
 use libc::STDOUT_FILENO;
 use numbers::{Read, Written};
 

@@ -1,18 +1,20 @@
 // Stored numbers: reading one at a position of a slice, writing one, and its length; signed
 // numbers to stored ones and back (01, "Bytes").
+#![tactic(auto)]
+
 ghost use Rattle.std.specs.Prelude.{◌≡◌, ◌≤◌, ◌<◌, length, get_or};
 ghost use Rattle.numbers.specs.Number.{form, number_at, written_at, write_at};
 ghost use Rattle.numbers.specs.Signed.{stored, signed};
 
 // What stands at a position: a number and the position after it, or no stored number.
-#[derive(Drop)]
+#[derive(Clone, Copy)]
 pub enum Read {
     Number(u32, usize),
     Nothing,
 }
 
 // Whether a number was written: the position after it, or no room, and nothing was written.
-#[derive(Drop)]
+#[derive(Clone, Copy)]
 pub enum Written {
     Next(usize),
     Full,

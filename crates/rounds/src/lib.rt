@@ -1,5 +1,7 @@
 // What the benchmark measures the calls on values by: events judged one after the other, those that
 // are allowed recorded.
+#![tactic(auto)]
+
 ghost use Rattle.std.specs.Prelude.{◌≡◌, length};
 ghost use Rattle.codec.specs.Output.{answer, left};
 ghost use Rattle.rounds.specs.Rounds.{round, rounds, rounds_reply, refusal_or0};

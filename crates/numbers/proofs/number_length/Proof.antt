@@ -26,17 +26,21 @@ length-from-zeros n positive below =
     let within : (128 ^ k ≤ max 1 n) × (n < 128 ^ suc k) = omega (arith, seven k, seven (suc k)) in
     omega (arith, (form-length-is n k (omega arith)).1 within)
 
-returns : tie.Need-returns
-returns c = rw (form-last c.before.args.number c.if1.true)
+returns : tie.Need-returns-then-number-lt128
+returns c = rw (form-last c.before.args.number c.if-number-lt128.true)
 
-sub-result : tie.Need-overflow-sub-result
+sub-result : tie.Need-overflow_sub-result
 sub-result c = omega (arith, leading_le 32 c.before.args.number)
 
-cast-result : tie.Need-overflow-cast-result
+cast-result : tie.Need-overflow_cast-result
 cast-result c = search rules
 
-returns-2 : tie.Need-returns-2
-returns-2 c = length-from-zeros c.before.args.number (omega (arith, c.if1.false)) c.before.ranges.number.fits
+returns-2 : tie.Need-returns
+returns-2 c = length-from-zeros c.before.args.number (omega (arith, c.if-number-lt128.false)) c.before.ranges.number.fits
 
-pub number-length-spec : {M : Type 1} → statement M
-number-length-spec = tie.close (tie.spec returns sub-result cast-result returns-2)
+pub number_length_spec : {M : Type 1} → statement M
+number_length_spec = tie.close (tie.spec
+    returns
+    sub-result
+    cast-result
+    returns-2)

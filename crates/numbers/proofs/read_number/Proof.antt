@@ -6,35 +6,35 @@ use Rattle.numbers.proofs.Reading.{at-end}
 use Rattle.numbers.proofs.read_number.Statement.{statement}
 use Rattle.numbers.proofs.read_number.Tie as tie
 
-returns : tie.Need-returns
+returns : tie.Need-returns-then-s-at
 returns c = at-end c.before.before.args.s.now c.before.before.args.at (omega arith)
 
-shared-slice-read-in-64-bits : tie.Need-shared-slice-read-in-64-bits
+shared-slice-read-in-64-bits : tie.Need-bounds-s-at
 shared-slice-read-in-64-bits c = search rules
 
-in-64-bits-requires : tie.Need-in-64-bits-requires
+in-64-bits-requires : tie.Need-in_64_bits-first-requires
 in-64-bits-requires c κs = search rules
 
-cast-number : tie.Need-overflow-cast-number
+cast-number : tie.Need-overflow_cast-number
 cast-number c = search rules
 
-add-next : tie.Need-overflow-add-next
+add-next : tie.Need-overflow_add-next
 add-next c = search rules
 
-returns-2 : tie.Need-returns-2
+returns-2 : tie.Need-returns-then-first-lt128
 returns-2 c =
-    let in-64-bits = c.before.in-64-bits in
+    let in-64-bits = c.before.in_64_bits-first in
     let args = c.before.before.before.before.before.args in
     at_one args.s.now args.at in-64-bits.result (omega arith) in-64-bits.ensures.0 (omega arith)
 
-read-groups-requires : tie.Need-read-groups-requires
+read-groups-requires : tie.Need-read_groups-requires
 read-groups-requires c κs = search rules
 
-returns-3 : tie.Need-returns-3
+returns-3 : tie.Need-returns
 returns-3 c = search rules
 
-pub read-number-spec : {M : Type 1} → statement M
-read-number-spec =
+pub read_number_spec : {M : Type 1} → statement M
+read_number_spec =
     tie.close
     (tie.spec
     returns

@@ -42,40 +42,47 @@ half-from (negsuc k) f t =
     let clash = rw (to_z-of_z f) at t in
     absurd (let z : ◌≡◌ {A = ℕ} 0 1 = cc in omega arith)
 
-abbrev Below : tie.Then1 → Type 0
+abbrev Below : tie.Then-n-lt0 → Type 0
 Below c = Half c.before.args.n (to_z w64 (18446744073709551615 - of_z w64 c.before.args.n)) 1
 
-below : (c : tie.Then1) → Below c
-below c = half-below c.before.args.n c.before.ranges.n c.if1.true
+below : (c : tie.Then-n-lt0) → Below c
+below c = half-below c.before.args.n c.before.ranges.n c.if-n-lt0.true
 
-abbrev From : tie.Else1 → Type 0
+abbrev From : tie.Else-n-lt0 → Type 0
 From c = Half c.before.args.n (to_z w64 (of_z w64 c.before.args.n)) 0
 
-from : (c : tie.Else1) → From c
-from c = half-from c.before.args.n c.before.ranges.n c.if1.false
+from : (c : tie.Else-n-lt0) → From c
+from c = half-from c.before.args.n c.before.ranges.n c.if-n-lt0.false
 
-cast-result : tie.Need-overflow-cast-result
+cast-result : tie.Need-overflow_cast-result
 cast-result c = cast (below c)
 
-mul-result : tie.Need-overflow-mul-result
+mul-result : tie.Need-overflow_mul-result
 mul-result c = omega (arith, twice (below c))
 
-add-result : tie.Need-overflow-add-result
+add-result : tie.Need-overflow_add-result
 add-result c = omega (arith, twice (below c))
 
-cast-result-2 : tie.Need-overflow-cast-result-2
+cast-result-2 : tie.Need-overflow_cast-result-else-n-lt0
 cast-result-2 c = cast (from c)
 
-mul-result-2 : tie.Need-overflow-mul-result-2
+mul-result-2 : tie.Need-overflow_mul-result-else-n-lt0
 mul-result-2 c = omega (arith, twice (from c))
 
-returns : tie.Need-returns
+returns : tie.Need-returns-then-n-lt0
 returns c = rw (below c).is (below c).doubled
 
-returns-2 : tie.Need-returns-2
+returns-2 : tie.Need-returns-else-n-lt0
 returns-2 c = rw (from c).is (omega (arith, (from c).doubled))
 
-pub stored-from-signed-spec : {M : Type 1} → statement M
-stored-from-signed-spec =
+pub stored_from_signed_spec : {M : Type 1} → statement M
+stored_from_signed_spec =
     tie.close
-    (tie.spec cast-result mul-result add-result cast-result-2 mul-result-2 returns returns-2)
+    (tie.spec
+    cast-result
+    mul-result
+    add-result
+    cast-result-2
+    mul-result-2
+    returns
+    returns-2)

@@ -7,45 +7,45 @@ use Rattle.codec.proofs.Walk.{told, written, measured}
 use Rattle.codec.proofs.put.put_number.Statement.{statement}
 use Rattle.codec.proofs.put.put_number.Tie as tie
 
-number-end-requires : tie.Need-number-end-requires
+number-end-requires : tie.Need-number_end-requires
 number-end-requires c κs = search rules
 
-returns : tie.Need-returns
-returns c = (c.number-end.ensures, sym (measured _ _ _ (not-true _ c.before.if1.true)))
+returns : tie.Need-returns-then-not-writing
+returns c = (c.number_end.ensures, sym (measured _ _ _ (c.if-not-writing.true)))
 
-write-number-requires : tie.Need-write-number-requires
+write-number-requires : tie.Need-write_number-written-requires
 write-number-requires c κs = search rules
 
-enum-known-written : tie.Need-enum-known-written
+enum-known-written : tie.Need-enum_known-written
 enum-known-written c = search rules
 
-enum_told : tie.Need-enum-told
+enum_told : tie.Need-enum_told-1
 enum_told c = search rules
 
-number-end-requires-2 : tie.Need-number-end-requires-2
+number-end-requires-2 : tie.Need-number_end-requires-in-Full
 number-end-requires-2 c κs = search rules
 
-same_length : tie.Need-same-length
+same_length : tie.Need-shape_of-out-in-Next
 same_length c = search rules
 
-returns-2 : tie.Need-returns-2
+returns-2 : tie.Need-returns-in-Next
 returns-2 c =
-    let wrote = c.before.before.before.before.before in
+    let wrote = c.before.before.before in
     let else = wrote.before.before in (
-      told _ _ _ (sym c.before.written.given.1 ∙ wrote.write-number.ensures.0) (omega arith),
-      wrote.write-number.ensures.1 ∙ sym (written _ _ _ (not-false _ else.if1.false)),
+      told _ _ _ (sym c.in-Next.is ∙ wrote.write_number-written.ensures.0) (omega arith),
+      wrote.write_number-written.ensures.1 ∙ sym (written _ _ _ (else.if-not-writing.false)),
     )
 
-same-length-2 : tie.Need-same-length-2
+same-length-2 : tie.Need-shape_of-out-in-Full
 same-length-2 c = search rules
 
-returns-3 : tie.Need-returns-3
+returns-3 : tie.Need-returns-in-Full
 returns-3 c =
-    let wrote = c.before.before.before.before.before in
-    (c.number-end2.ensures, wrote.write-number.ensures.1 ∙ sym (written _ _ _ (not-false _ wrote.before.before.if1.false)))
+    let wrote = c.before.before.before.before in
+    (c.number_end-in-Full.ensures, wrote.write_number-written.ensures.1 ∙ sym (written _ _ _ (wrote.if-not-writing.false)))
 
-pub put-number-spec : {M : Type 1} → statement M
-put-number-spec =
+pub put_number_spec : {M : Type 1} → statement M
+put_number_spec =
     tie.close
     (tie.spec
     number-end-requires

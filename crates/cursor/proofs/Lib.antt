@@ -1,3 +1,0 @@
--- What the walks share.
-pub mod Parts
-pub mod Lent
