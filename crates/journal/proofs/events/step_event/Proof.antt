@@ -11,78 +11,74 @@ use Rattle.journal.proofs.events.step_event.Tie as tie
 
 -- ---- places of the code
 
-abbrev numbered : tie.After-event-row-arg → tie.Else1
-numbered c = c.before.before
+abbrev numbered : tie.After-event_row-arg-1 → tie.Else-not-counted
+numbered c = c.before
 
-abbrev taken : tie.After-event-row-arg2 → tie.After-event-row
-taken c = c.before.before
+abbrev taken : tie.After-event_row-arg-2-1 → tie.After-event_row-takes
+taken c = c.before
 
-abbrev given : tie.After-step-arg3 → tie.After-event-row2
-given c = c.before.before.before.before.before.before
+abbrev given : tie.After-step-arg-3-1 → tie.After-event_row-gives
+given c = c.before.before.before.before.before
 
-abbrev stepped : tie.After-weigh-tables-arg5 → tie.After-enum-told
+abbrev stepped : tie.After-weigh-tables-arg5 → tie.In_default
 stepped c = c.before.before.before.before.before.before.before.before
 
 -- ---- what is known there
 
 -- the event is one of the net's
-among : (c : tie.Else1) → (0 < c.before.before.args.event) × (c.before.before.args.event ≤ c.before.before.args.t1.events)
-among c = counted-true _ _ (sym c.before.counted.ensures ∙ not-false _ c.if1.false)
+among : (c : tie.Else-not-counted) → (0 < c.args.event) × (c.args.event ≤ c.args.net.events)
+among c = counted-true _ _ (sym c.counted.ensures ∙ c.if-not-counted.false)
 
 counted-requires : tie.Need-counted-requires
 counted-requires c κs = search rules
 
-returns : tie.Need-returns
-returns c = none-steps c.before.before.requires _ (sym c.before.counted.ensures ∙ not-true _ c.if1.true)
+returns : tie.Need-returns-then-not-counted
+returns c = none-steps c.requires _ (sym c.counted.ensures ∙ c.if-not-counted.true)
 
-sub-event-row : tie.Need-overflow-sub-event-row
+sub-event-row : tie.Need-overflow_sub-event
 sub-event-row c = omega (arith, among (numbered c))
 
-event-row-requires : tie.Need-event-row-requires
+event-row-requires : tie.Need-event_row-takes-requires
 event-row-requires c κs = search rules
 
-sub-event-row-2 : tie.Need-overflow-sub-event-row-2
+sub-event-row-2 : tie.Need-overflow_sub-event-2
 sub-event-row-2 c = omega (arith, among (numbered (taken c).before))
 
-event-row-requires-2 : tie.Need-event-row-requires-2
+event-row-requires-2 : tie.Need-event_row-gives-requires
 event-row-requires-2 c κs = search rules
 
-step-requires : tie.Need-step-requires
+step-requires : tie.Need-step-checked-requires
 step-requires c κs = search rules
 
-enum-known-checked : tie.Need-enum-known-checked
+enum-known-checked : tie.Need-enum_known-checked
 enum-known-checked c = search rules
 
-returns-2 : tie.Need-returns-2
+returns-2 : tie.Need-returns-in-Refused
 returns-2 c =
-    let step = c.before.before.before in
-    let gives = given step.before in
+    let gives = given c.before.before in
     let takes = taken gives.before in
     let event = numbered takes.before in
-    let start = event.before.before in
-    step-refused start.pre start.args.event (start.args.event - 1) (omega (arith, among event)) (omega (arith, among event))
-    takes.event-row.ensures gives.event-row2.ensures step.step.ensures _ c.before.checked.given.1
+    step-refused event.requires event.args.event (event.args.event - 1) (omega (arith, among event)) (omega (arith, among event))
+    takes.event_row-takes.ensures gives.event_row-gives.ensures c.step-checked.ensures _ c.in-Refused.is
 
-enum_told : tie.Need-enum-told
+enum_told : tie.Need-enum_told-1
 enum_told c = search rules
 
-weigh-tables-requires : tie.Need-weigh-tables-requires
+weigh-tables-requires : tie.Need-weigh_tables-requires
 weigh-tables-requires c κs = search rules
 
-returns-3 : tie.Need-returns-3
+returns-3 : tie.Need-returns
 returns-3 c =
     let told = stepped c.before in
-    let step = told.before.before in
-    let gives = given step.before in
+    let gives = given told.before.before in
     let takes = taken gives.before in
     let event = numbered takes.before in
-    let start = event.before.before in
-    step-recorded start.pre start.args.event (start.args.event - 1) (omega (arith, among event)) (omega (arith, among event))
-    takes.event-row.ensures gives.event-row2.ensures step.step.ensures told.enum_told.given.1
-    c.weigh-tables.ensures
+    step-recorded event.requires event.args.event (event.args.event - 1) (omega (arith, among event)) (omega (arith, among event))
+    takes.event_row-takes.ensures gives.event_row-gives.ensures told.step-checked.ensures told.in_default.is
+    c.weigh_tables.ensures
 
-pub step-event-spec : {M : Type 1} → statement M
-step-event-spec =
+pub step_event_spec : {M : Type 1} → statement M
+step_event_spec =
     tie.close
     (tie.spec
     counted-requires

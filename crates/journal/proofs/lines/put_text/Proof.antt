@@ -9,44 +9,42 @@ use Rattle.journal.proofs.Putting.{text-joined}
 use Rattle.journal.proofs.lines.put_text.Statement.{statement}
 use Rattle.journal.proofs.lines.put_text.Tie as tie
 
-abbrev invariant-loop : tie.invariant-loop
+abbrev invariant-loop : tie.invariant-loop-i
 invariant-loop out₀ at text next₀ i₀ out next i = Walking true out₀ at (length text) (λ j. get_or text j 0 ∷ []) i out next
 
-abbrev decreases-loop : tie.decreases-loop
+abbrev decreases-loop : tie.decreases-loop-i
 decreases-loop out₀ at text next₀ i₀ out next i = length text - i
 
-loop-holds : tie.Need-loop-init invariant-loop decreases-loop
+loop-holds : tie.Need-loop-i-init invariant-loop decreases-loop
 loop-holds c =
-    let start = c.before.before in
-    walking-none (rw (text-joined start.args.text.now) start.requires)
+    walking-none (rw (text-joined c.args.text.now) c.requires)
 
-shared-slice-read-put-byte : tie.Need-shared-slice-read-put-byte invariant-loop decreases-loop
+shared-slice-read-put-byte : tie.Need-bounds-text-i invariant-loop decreases-loop
 shared-slice-read-put-byte c = omega arith
 
-put-byte-requires : tie.Need-put-byte-requires invariant-loop decreases-loop
-put-byte-requires c κs = walking-room c.before.before.before.loop.invariant (omega arith)
+put-byte-requires : tie.Need-put_byte-next-requires invariant-loop decreases-loop
+put-byte-requires c κs = walking-room c.loop-i.invariant (omega arith)
 
-add-i : tie.Need-overflow-add-i invariant-loop decreases-loop
+add-i : tie.Need-overflow_add-i invariant-loop decreases-loop
 add-i c = omega arith
 
-loop-less : tie.Need-loop-smaller invariant-loop decreases-loop
+loop-less : tie.Need-loop-i-smaller invariant-loop decreases-loop
 loop-less c = omega arith
 
-loop-again : tie.Need-loop-preserved invariant-loop decreases-loop
+loop-again : tie.Need-loop-i-preserved invariant-loop decreases-loop
 loop-again c =
-    let put = c.before.before in
-    walking-more put.before.before.before.before.loop.invariant (omega arith) put.put_byte.ensures
+    walking-more c.loop-i.invariant (omega arith) c.put_byte-next.ensures
 
 returns : tie.Need-returns invariant-loop decreases-loop
 returns c =
-    let text = c.before.before.before.before.args.text.now in
-    rw (text-joined text) at (walking-all c.before.loop.invariant (omega arith))
+    let text = c.args.text.now in
+    rw (text-joined text) at (walking-all c.loop-i.invariant (omega arith))
 
-same_length : tie.Need-same-length invariant-loop decreases-loop
+same_length : tie.Need-shape_of-out invariant-loop decreases-loop
 same_length c = walked-length (returns c)
 
-pub put-text-spec : {M : Type 1} → statement M
-put-text-spec =
+pub put_text_spec : {M : Type 1} → statement M
+put_text_spec =
     tie.close
     (tie.spec
     invariant-loop
