@@ -1,7 +1,6 @@
 -- `journal::lines::put_refusal` meets its contract: the word, the number and a newline.
 use mathlib.Core.Bool.{true}
 use native.Mathlib.Omega.{arith}
-use borrow.Author.Rules.{rules}
 use Rattle.codec.specs.Walk.{Room}
 use Rattle.codec.proofs.Walk.{walked-length, walked_both, room-first, room_next}
 use Rattle.journal.specs.Lines.{refused_bytes}
