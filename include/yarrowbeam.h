@@ -49,7 +49,7 @@
  *   - No call uses the heap, and none more than YARROWBEAM_LARGEST_STACK bytes of stack. (Where the dynamic linker finds
  *     memcpy or memset only when it is first called, the linker's own share comes on top of that once.)
  *
- * The names are those of the static library, target/staticlib/libhost.a, which `rt staticlib host` makes.
+ * The names are those of the static library, target/staticlib/libhost.a, which `host/make host` makes.
  */
 #ifndef YARROWBEAM_H
 #define YARROWBEAM_H

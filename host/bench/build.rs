@@ -1,4 +1,4 @@
-//! Links the static library that `rt staticlib rounds` makes.
+//! Links the static library that `host/make rounds` makes.
 
 fn main() {
     let folder = format!("{}/../../target/staticlib", std::env::var("CARGO_MANIFEST_DIR").unwrap());

@@ -1,4 +1,4 @@
-//! Links the static library that `rt staticlib host` makes.
+//! Links the static library that `host/make host` makes.
 
 fn main() {
     let folder = format!("{}/../../target/staticlib", std::env::var("CARGO_MANIFEST_DIR").unwrap());

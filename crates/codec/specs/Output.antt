@@ -8,7 +8,6 @@ use Rattle.numbers.specs.declared.Written.TheVariants.{Next, Full}
 use Rattle.codec.specs.declared.Wrote.{Wrote}
 use Rattle.codec.specs.declared.Wrote.TheVariants.{Bytes, Refused}
 use Rattle.codec.specs.declared.WroteBoth.{WroteBoth}
-use Rattle.codec.specs.declared.WroteBoth.TheVariants as WroteBoth
 
 -- "Does the result fit the lent output? 13"
 abbrev pub fitting : ℕ → Reply (List ℕ) → Reply (List ℕ)

@@ -1,7 +1,5 @@
 // "The reader is a cursor that travels with the lent description": a struct that holds the slice and a
-// position in it. The borrow checker covers no function over such a struct, so those over it are few and
-// thin, and each is proved by hand; what they call takes a plain slice and is covered. Whoever calls
-// `header_numbers` sees no cursor.
+// position in it. Whoever calls `header_numbers` sees no cursor.
 #![tactic(auto)]
 
 ghost use Rattle.std.specs.Prelude.{◌≡◌};

@@ -1,5 +1,6 @@
-// The host's functions: the observer's calls on bytes as C calls them (include/yarrowbeam.h). An
-// answer is one number: what 01 has for it, or minus the number of a refusal.
+// The host's functions: the observer's calls on bytes as C calls them (include/yarrowbeam.h), by the
+// exports of crates/host_c. An answer is one number: what 01 has for it, or minus the number of a
+// refusal.
 #![tactic(auto)]
 
 ghost use Rattle.std.specs.Prelude.{◌≡◌, length};
@@ -13,8 +14,7 @@ use net::{Answer, Known, Verdict};
 
 // Writes the fresh state of the net that the bytes describe, if it fits the output: the number of
 // bytes. A refusal writes nothing.
-#[unsafe(no_mangle)]
-pub extern "C" fn fresh(d: &[u8], out: &mut [u8]) -> i64
+pub fn fresh(d: &[u8], out: &mut [u8]) -> i64
     ensures value { result ≡ wrote_number (answer (length out.old) (fresh_reply d.now)) }
     ensures out_after { out.new ≡ left out.old (fresh_reply d.now) }
 {
@@ -24,8 +24,7 @@ pub extern "C" fn fresh(d: &[u8], out: &mut [u8]) -> i64
 
 // Writes the state after an event of the net that the first bytes describe, at the state that the
 // others are, if it fits the output: the number of bytes. A refusal writes nothing.
-#[unsafe(no_mangle)]
-pub extern "C" fn record<'a>(d: &'a [u8], s: &'a [u8], event: u32, out: &mut [u8]) -> i64
+pub fn record<'a>(d: &'a [u8], s: &'a [u8], event: u32, out: &mut [u8]) -> i64
     ensures value { result ≡ wrote_number (answer (length out.old) (record_reply d.now s.now event)) }
     ensures out_after { out.new ≡ left out.old (record_reply d.now s.now event) }
 {
@@ -34,8 +33,7 @@ pub extern "C" fn record<'a>(d: &'a [u8], s: &'a [u8], event: u32, out: &mut [u8
 }
 
 // Judges an event: 0 if it is allowed, the number of the limit that holds it if it is held.
-#[unsafe(no_mangle)]
-pub extern "C" fn judge<'a>(d: &'a [u8], s: &'a [u8], event: u32) -> i64
+pub fn judge<'a>(d: &'a [u8], s: &'a [u8], event: u32) -> i64
     ensures { result ≡ answer_number (answer_of (judge_reply d.now s.now event)) }
 {
     let answer = observer::judge(d, s, event);
@@ -49,8 +47,7 @@ pub extern "C" fn judge<'a>(d: &'a [u8], s: &'a [u8], event: u32) -> i64
 }
 
 // Does the observer know where all tokens are? 1 or 0.
-#[unsafe(no_mangle)]
-pub extern "C" fn known<'a>(d: &'a [u8], s: &'a [u8]) -> i64
+pub fn known<'a>(d: &'a [u8], s: &'a [u8]) -> i64
     ensures { result ≡ known_number (known_of (known_reply d.now s.now)) }
 {
     let known = observer::known(d, s);
@@ -64,8 +61,7 @@ pub extern "C" fn known<'a>(d: &'a [u8], s: &'a [u8]) -> i64
 // A head count of the listed places, a byte for each: writes the description with one group more and
 // the state after it, if both fit their outputs: the number of bytes of the description times 2 ^ 32,
 // and that of the state. A refusal writes nothing.
-#[unsafe(no_mangle)]
-pub extern "C" fn count<'a>(
+pub fn count<'a>(
     d: &'a [u8],
     s: &'a [u8],
     places: &'a [u8],
@@ -83,8 +79,7 @@ pub extern "C" fn count<'a>(
 
 // Writes the same state for older observers, if it fits the output: the number of bytes. A refusal
 // writes nothing.
-#[unsafe(no_mangle)]
-pub extern "C" fn older<'a>(d: &'a [u8], s: &'a [u8], out: &mut [u8]) -> i64
+pub fn older<'a>(d: &'a [u8], s: &'a [u8], out: &mut [u8]) -> i64
     ensures answer { result ≡ wrote_number (answer (length out.old) (older_reply d.now s.now)) }
     ensures output { out.new ≡ left out.old (older_reply d.now s.now) }
 {
@@ -94,8 +89,7 @@ pub extern "C" fn older<'a>(d: &'a [u8], s: &'a [u8], out: &mut [u8]) -> i64
 
 // Writes the same state in edition 1, if it fits the output: the number of bytes. A refusal writes
 // nothing.
-#[unsafe(no_mangle)]
-pub extern "C" fn dense<'a>(d: &'a [u8], s: &'a [u8], out: &mut [u8]) -> i64
+pub fn dense<'a>(d: &'a [u8], s: &'a [u8], out: &mut [u8]) -> i64
     ensures answer { result ≡ wrote_number (answer (length out.old) (dense_reply d.now s.now)) }
     ensures output { out.new ≡ left out.old (dense_reply d.now s.now) }
 {
@@ -105,8 +99,7 @@ pub extern "C" fn dense<'a>(d: &'a [u8], s: &'a [u8], out: &mut [u8]) -> i64
 
 // Writes the same state in edition 2, if it fits the output: the number of bytes. A refusal writes
 // nothing.
-#[unsafe(no_mangle)]
-pub extern "C" fn sparse<'a>(d: &'a [u8], s: &'a [u8], out: &mut [u8]) -> i64
+pub fn sparse<'a>(d: &'a [u8], s: &'a [u8], out: &mut [u8]) -> i64
     ensures answer { result ≡ wrote_number (answer (length out.old) (sparse_reply d.now s.now)) }
     ensures output { out.new ≡ left out.old (sparse_reply d.now s.now) }
 {

@@ -11,8 +11,7 @@ use net::{Answer, Checked, Net, Observer, Verdict};
 
 // Writes the state after the events, one in a byte, from fresh: 0, or the number of a refusal, which
 // writes nothing.
-#[unsafe(no_mangle)]
-pub extern "C" fn value_rounds<'a>(d: &'a [u8], events: &'a [u8], out: &mut [u8]) -> u32
+pub fn value_rounds<'a>(d: &'a [u8], events: &'a [u8], out: &mut [u8]) -> u32
     ensures answer { result ≡ refusal_or0 (answer (length out.old) (rounds_reply d.now events.now)) }
     ensures output { out.new ≡ left out.old (rounds_reply d.now events.now) }
 {

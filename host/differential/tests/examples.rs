@@ -122,7 +122,7 @@ fn printed(d: &[u8], events: &[u8]) -> String {
         .stdin(Stdio::piped())
         .stdout(Stdio::piped())
         .spawn()
-        .expect("the program, which `rt check journal` makes");
+        .expect("the program, which `host/make journal` makes");
     program.stdin.take().expect("a pipe").write_all(&input).expect("its input is read");
     let lines = String::from_utf8(program.wait_with_output().expect("its output").stdout).expect("text");
     assert_eq!(lines, journal(&input), "the journal of {}", hex(&input));

@@ -1,5 +1,5 @@
 -- `cursor::header_numbers`: each number stands behind the one before it.
-use Rattle.std.proofs.Common.{◌≡◌, ℕ, List, refl, ap, ◌∙◌}
+use Rattle.std.proofs.Common.{◌≡◌, ℕ, List, ap, ◌∙◌}
 use Rattle.numbers.specs.Number.{number_at}
 use Rattle.numbers.specs.declared.Read.{Read}
 use Rattle.cursor.specs.Cursors.{next, behind, header_numbers}

@@ -10,35 +10,35 @@ use Rattle.host.specs.Numbers.{BothCountable, wrote_both_number}
 use Rattle.host.proofs.both_number.Statement.{statement}
 use Rattle.host.proofs.both_number.Tie as tie
 
-small : (c : tie.After-wrote) → c.wrote.given.0.0 * 2 ^ 32 + c.wrote.given.0.1.0 < 2 ^ 63
-small c = subst (λ (w : WroteBoth). BothCountable w) c.wrote.given.1 c.before.before.requires
+small : (c : tie.In-Bytes) → c.in-Bytes.description * 2 ^ 32 + c.in-Bytes.state < 2 ^ 63
+small c = subst (λ (w : WroteBoth). BothCountable w) c.in-Bytes.is c.requires
 
-enum-known-wrote : tie.Need-enum-known-wrote
+enum-known-wrote : tie.Need-enum_known-wrote
 enum-known-wrote c = search rules
 
-mul-result : tie.Need-overflow-mul-result
-mul-result c = omega (arith, small c.before)
+mul-result : tie.Need-overflow_mul-result
+mul-result c = omega (arith, small c)
 
-add-result : tie.Need-overflow-add-result
-add-result c = omega (arith, small c.before)
+add-result : tie.Need-overflow_add-result
+add-result c = omega (arith, small c)
 
-cast-result : tie.Need-overflow-cast-result
-cast-result c = record { sfits = small c.before }
+cast-result : tie.Need-overflow_cast-result
+cast-result c = record { sfits = small c }
 
-enum-known-wrote-2 : tie.Need-enum-known-wrote-2
+enum-known-wrote-2 : tie.Need-enum_known-wrote-in-Refused-1
 enum-known-wrote-2 c = search rules
 
-refusal-number-requires : tie.Need-refusal-number-requires
+refusal-number-requires : tie.Need-refusal_number-requires
 refusal-number-requires c κs = search rules
 
-returns : tie.Need-returns
-returns c = to_z_pos w64 (small c.before) ∙ sym (ap wrote_both_number c.before.wrote.given.1)
+returns : tie.Need-returns-in-Bytes
+returns c = to_z_pos w64 (small c) ∙ sym (ap wrote_both_number c.in-Bytes.is)
 
-returns-2 : tie.Need-returns-2
-returns-2 c = to_z-of_z (sfits_of c.refusal-number.type-inv) ∙ c.refusal-number.ensures ∙ sym (ap wrote_both_number c.before.before.wrote2.given.1)
+returns-2 : tie.Need-returns-in-Refused
+returns-2 c = to_z-of_z {w = w64} (sfits_of c.refusal_number.type_inv) ∙ c.refusal_number.ensures ∙ sym (ap wrote_both_number c.in-Refused.is)
 
-pub both-number-spec : {M : Type 1} → statement M
-both-number-spec =
+pub both_number_spec : {M : Type 1} → statement M
+both_number_spec =
     tie.close
     (tie.spec
     enum-known-wrote

@@ -17,14 +17,17 @@ fits (suc n) h = record { sfits = omega (arith, h) }
 minus : (n : ℕ) → n < 2 ^ 63 → (pos 0 -ℤ to_z w64 n) ≡ neg_ℤ (pos n)
 minus n h = rw (to_z_pos w64 h) (+ℤ_idl (neg_ℤ (pos n)))
 
-cast-result : tie.Need-overflow-cast-result
+cast-result : tie.Need-overflow_cast-result
 cast-result c = search rules
 
-sub-result : tie.Need-overflow-sub-result
+sub-result : tie.Need-overflow_sub-result
 sub-result c = rw (minus c.args.refusal (omega arith)) (fits c.args.refusal (omega arith))
 
 returns : tie.Need-returns
-returns c = rw (minus c.args.refusal (omega arith)) (to_z-of_z (fits c.args.refusal (omega arith)))
+returns c = rw (minus c.args.refusal (omega arith)) (to_z-of_z {w = w64} (fits c.args.refusal (omega arith)))
 
-pub refusal-number-spec : {M : Type 1} → statement M
-refusal-number-spec = tie.close (tie.spec cast-result sub-result returns)
+pub refusal_number_spec : {M : Type 1} → statement M
+refusal_number_spec = tie.close (tie.spec
+    cast-result
+    sub-result
+    returns)

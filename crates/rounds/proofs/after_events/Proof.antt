@@ -10,46 +10,43 @@ use Rattle.rounds.proofs.Rounds.{rounds-more, rounds-none}
 use Rattle.rounds.proofs.after_events.Statement.{statement}
 use Rattle.rounds.proofs.after_events.Tie as tie
 
-abbrev invariant-loop : tie.invariant-loop
+abbrev invariant-loop : tie.invariant-loop-i
 invariant-loop net events current₀ i₀ current i = rounds net current (drop i events) ≡ rounds net current₀ events
 
-abbrev decreases-loop : tie.decreases-loop
+abbrev decreases-loop : tie.decreases-loop-i
 decreases-loop net events current₀ i₀ current i = length events - i
 
-loop-holds : tie.Need-loop-init invariant-loop decreases-loop
+loop-holds : tie.Need-loop-i-init invariant-loop decreases-loop
 loop-holds c = refl
 
-shared-slice-read-after-event : tie.Need-shared-slice-read-after-event invariant-loop decreases-loop
+shared-slice-read-after-event : tie.Need-bounds-events-i invariant-loop decreases-loop
 shared-slice-read-after-event c = search rules
 
-cast-after-event : tie.Need-overflow-cast-after-event invariant-loop decreases-loop
-cast-after-event c = omega (arith, c.shared-slice-known2.given c.before.before.loop.i)
+cast-after-event : tie.Need-overflow_cast-events invariant-loop decreases-loop
+cast-after-event c = omega (arith, c.shared_slice_known-in-loop-i-1.given c.loop-i.i)
 
-after-event-requires : tie.Need-after-event-requires invariant-loop decreases-loop
+after-event-requires : tie.Need-after_event-current-requires invariant-loop decreases-loop
 after-event-requires c κs = search rules
 
-add-i : tie.Need-overflow-add-i invariant-loop decreases-loop
+add-i : tie.Need-overflow_add-i invariant-loop decreases-loop
 add-i c = search rules
 
-loop-less : tie.Need-loop-smaller invariant-loop decreases-loop
+loop-less : tie.Need-loop-i-smaller invariant-loop decreases-loop
 loop-less c = search rules
 
-loop-again : tie.Need-loop-preserved invariant-loop decreases-loop
+loop-again : tie.Need-loop-i-preserved invariant-loop decreases-loop
 loop-again c =
-    let turn = c.before.before in
-    let looped = turn.before in
-    let args = looped.before.before.args in
-    ap (λ (o : Observer). rounds args.net o (drop (looped.loop.i + 1) args.events.now)) c.after-event.ensures
-    ∙ sym (rounds-more args.net looped.loop.current args.events.now looped.loop.i turn.loop-test.true) ∙ looped.loop.invariant
+    let args = c.args in
+    ap (λ (o : Observer). rounds args.net o (drop (c.loop-i.i + 1) args.events.now)) c.after_event-current.ensures
+    ∙ sym (rounds-more args.net c.loop-i.current args.events.now c.loop-i.i c.loop-i-test.true) ∙ c.loop-i.invariant
 
 returns : tie.Need-returns invariant-loop decreases-loop
 returns c =
-    let looped = c.before in
-    let args = looped.before.before.args in
-    sym (rounds-none args.net looped.loop.current args.events.now looped.loop.i (omega (arith, c.loop-test.false))) ∙ looped.loop.invariant
+    let args = c.args in
+    sym (rounds-none args.net c.loop-i.current args.events.now c.loop-i.i (omega (arith, c.loop-i-test.false))) ∙ c.loop-i.invariant
 
-pub after-events-spec : {M : Type 1} → statement M
-after-events-spec =
+pub after_events_spec : {M : Type 1} → statement M
+after_events_spec =
     tie.close
     (tie.spec
     invariant-loop

@@ -15,77 +15,72 @@ use Rattle.rounds.proofs.value_rounds.Tie as tie
 
 -- ---- places of the code
 
-abbrev written : tie.After-slice-known2 → tie.After-write-observer
+abbrev written : tie.After-slice_known-2-1 → tie.After-write_observer-wrote
 written c = c.before.before
 
-abbrev start : tie.After-read-description → tie.Start
+abbrev start : tie.After-read_description-read → tie.Start
 start c = c.before.before.before.before
 
-abbrev read : tie.After-write-observer → tie.After-read-description
+abbrev read : tie.After-write_observer-wrote → tie.After-read_description-read
 read c = c.before.before.before.before.before.before.before
 
 -- the lent output
-abbrev lent : tie.After-read-description → List ℕ
+abbrev lent : tie.After-read_description-read → List ℕ
 lent c = (start c).args.out.now
 
 -- what is written in the end
-reply : (c : tie.After-write-observer)
-    → rounds_reply (start (read c)).args.d.now (start (read c)).args.events.now ≡ observer_output (read c).read-description.result.net c.before.before.after-events.result
+reply : (c : tie.After-write_observer-wrote)
+    → rounds_reply (start (read c)).args.d.now (start (read c)).args.events.now ≡ observer_output (read c).read_description-read.result.net c.after_events-observer.result
 reply c =
-    let after = c.before.before in
-    let fresh = after.before in
-    let told = fresh.before.before in
-    reply-is _ _ (good-read (description_read (start (read c)).args.d.now) (read c).read-description.ensures told.enum_told.given.1) fresh.fresh.ensures after.after-events.ensures
+    reply-is _ _ (good-read (description_read (start (read c)).args.d.now) (read c).read_description-read.ensures c.in_default.is) c.fresh-fresh.ensures c.after_events-observer.ensures
 
-read-description-requires : tie.Need-read-description-requires
+read-description-requires : tie.Need-read_description-read-requires
 read-description-requires c κs = search rules
 
-enum-known-checked : tie.Need-enum-known-checked
+enum-known-checked : tie.Need-enum_known-checked
 enum-known-checked c = search rules
 
-returns : tie.Need-returns
+returns : tie.Need-returns-in-Refused
 returns c =
-    let found = c.before in
-    let first = found.before.before in
-    let refused = reply-refused _ (start first).args.events.now _ (refused-read (description_read (start first).args.d.now) _ first.read-description.ensures found.checked.given.1) in
-    (ap (λ it. refusal_or0 (answer (length (lent first)) it)) (sym refused), ap (left (lent first)) (sym refused))
+    let refused = reply-refused _ (start c.before).args.events.now _ (refused-read (description_read (start c.before).args.d.now) _ c.read_description-read.ensures c.in-Refused.is) in
+    (ap (λ it. refusal_or0 (answer (length (lent c.before)) it)) (sym refused), ap (left (lent c.before)) (sym refused))
 
-enum_told : tie.Need-enum-told
+enum_told : tie.Need-enum_told-1
 enum_told c = search rules
 
-fresh-requires : tie.Need-fresh-requires
+fresh-requires : tie.Need-fresh-fresh-requires
 fresh-requires c κs = search rules
 
-after-events-requires : tie.Need-after-events-requires
+after-events-requires : tie.Need-after_events-observer-requires
 after-events-requires c κs = search rules
 
-write-observer-requires : tie.Need-write-observer-requires
+write-observer-requires : tie.Need-write_observer-wrote-requires
 write-observer-requires c κs = search rules
 
-enum-told-2 : tie.Need-enum-told-2
+enum-told-2 : tie.Need-enum_told-in-Bytes
 enum-told-2 c = search rules
 
-enum-known-wrote : tie.Need-enum-known-wrote
+enum-known-wrote : tie.Need-enum_known-wrote
 enum-known-wrote c = search rules
 
-same_length : tie.Need-same-length
+same_length : tie.Need-shape_of-out-in-Bytes
 same_length c = search rules
 
-returns-2 : tie.Need-returns-2
+returns-2 : tie.Need-returns-in-Bytes
 returns-2 c =
-    let wrote = written c.before.before in
-    (ap refusal_or0 (sym c.enum-told2.given.1 ∙ wrote.write-observer.ensures.0 ∙ ap (answer (length (lent (read wrote)))) (sym (reply wrote))), wrote.write-observer.ensures.1 ∙ ap (left (lent (read wrote))) (sym (reply wrote)))
+    let wrote = written c.before in
+    (ap refusal_or0 (sym c.in-Bytes.is ∙ wrote.write_observer-wrote.ensures.0 ∙ ap (answer (length (lent (read wrote)))) (sym (reply wrote))), wrote.write_observer-wrote.ensures.1 ∙ ap (left (lent (read wrote))) (sym (reply wrote)))
 
-same-length-2 : tie.Need-same-length-2
+same-length-2 : tie.Need-shape_of-out-in-Refused-wrote
 same-length-2 c = search rules
 
-returns-3 : tie.Need-returns-3
+returns-3 : tie.Need-returns-in-Refused-wrote
 returns-3 c =
-    let wrote = written c.before.before.before in
-    (ap refusal_or0 (sym c.before.wrote.given.1 ∙ wrote.write-observer.ensures.0 ∙ ap (answer (length (lent (read wrote)))) (sym (reply wrote))), wrote.write-observer.ensures.1 ∙ ap (left (lent (read wrote))) (sym (reply wrote)))
+    let wrote = written c.before in
+    (ap refusal_or0 (sym c.in-Refused-wrote.is ∙ wrote.write_observer-wrote.ensures.0 ∙ ap (answer (length (lent (read wrote)))) (sym (reply wrote))), wrote.write_observer-wrote.ensures.1 ∙ ap (left (lent (read wrote))) (sym (reply wrote)))
 
-pub value-rounds-spec : {M : Type 1} → statement M
-value-rounds-spec =
+pub value_rounds_spec : {M : Type 1} → statement M
+value_rounds_spec =
     tie.close
     (tie.spec
     read-description-requires

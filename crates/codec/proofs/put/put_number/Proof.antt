@@ -2,7 +2,6 @@
 use mathlib.Core.Path.{sym, ◌∙◌}
 use native.Mathlib.Omega.{arith}
 use borrow.Author.Rules.{rules}
-use borrow.Author.Tests.{not-true, not-false}
 use Rattle.codec.proofs.Walk.{told, written, measured}
 use Rattle.codec.proofs.put.put_number.Statement.{statement}
 use Rattle.codec.proofs.put.put_number.Tie as tie

@@ -1,7 +1,6 @@
 -- `cursor::Cursor::take`: what was read is what stands at the cursor, and the cursor goes to the position after it.
 use Rattle.std.proofs.Common.{◌∙◌, ap}
-use Rattle.cursor.specs.Cursors.{next, position_after, behind}
-use Rattle.cursor.specs.declared.Cursor.{Cursor}
+use Rattle.cursor.specs.Cursors.{next, position_after}
 use Rattle.cursor.proofs.Cursor.take.Goals as goal
 
 pub returns : goal.returns
