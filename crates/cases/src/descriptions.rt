@@ -59,12 +59,7 @@ pub fn changed(rt: &impl Print, d: &[u8], at: usize) -> io::Result<()> {
     each_value(rt, &mut space, size, at)
 }
 
-fn each_value(
-    rt: &impl Print,
-    space: &mut [u8; 64],
-    size: usize,
-    at: usize,
-) -> io::Result<()>
+fn each_value(rt: &impl Print, space: &mut [u8; 64], size: usize, at: usize) -> io::Result<()>
     requires { at < 64 }
 {
     let mut value = 0usize;
