@@ -2,57 +2,85 @@
 use crate::words::{judged, known, put, refused, written};
 use crate::{FRESH, JUDGE, KNOWN, RECORD};
 use net::{Checked, Net, Observed, Observer};
+use std::io;
 
-pub fn answers<'a>(d: &'a [u8], s: &'a [u8], call: u32, event: u32, room: usize) {
+pub fn answers<'a>(
+    rt: &impl Print,
+    d: &'a [u8],
+    s: &'a [u8],
+    call: u32,
+    event: u32,
+    room: usize,
+) -> io::Result<()> {
     // more than the state of any case
     let mut space = [0u8; 500];
     if 500 < room {
-        return;
+        return Ok(());
     }
     let out = &mut space[0..room];
-    on_bytes(d, s, call, event, out);
-    put(b" /");
-    on_values(d, s, call, event, out);
+    on_bytes(rt, d, s, call, event, out)?;
+    put(rt, b" /")?;
+    on_values(rt, d, s, call, event, out)
 }
 
-fn on_bytes<'a>(d: &'a [u8], s: &'a [u8], call: u32, event: u32, out: &mut [u8]) {
+fn on_bytes<'a>(
+    rt: &impl Print,
+    d: &'a [u8],
+    s: &'a [u8],
+    call: u32,
+    event: u32,
+    out: &mut [u8],
+) -> io::Result<()> {
     match call {
         FRESH => {
             let wrote = observer::fresh(d, out);
-            written(wrote, out);
+            written(rt, wrote, out)
         }
         RECORD => {
             let wrote = observer::record(d, s, event, out);
-            written(wrote, out);
+            written(rt, wrote, out)
         }
-        JUDGE => judged(observer::judge(d, s, event)),
-        _ => known(observer::known(d, s)),
+        JUDGE => judged(rt, observer::judge(d, s, event)),
+        _ => known(rt, observer::known(d, s)),
     }
 }
 
-fn on_values<'a>(d: &'a [u8], s: &'a [u8], call: u32, event: u32, out: &mut [u8]) {
+fn on_values<'a>(
+    rt: &impl Print,
+    d: &'a [u8],
+    s: &'a [u8],
+    call: u32,
+    event: u32,
+    out: &mut [u8],
+) -> io::Result<()> {
     let read = description::read_description(d);
     let checked = read.checked;
     match checked {
-        Checked::Good => on_net(read.net, s, call, event, out),
-        Checked::Refused(refusal) => refused(refusal),
+        Checked::Good => on_net(rt, read.net, s, call, event, out),
+        Checked::Refused(refusal) => refused(rt, refusal),
     }
 }
 
 // What a call answers of the observer that it leaves, or its refusal.
-fn on_net(net: Net, s: &[u8], call: u32, event: u32, out: &mut [u8]) {
+fn on_net(
+    rt: &impl Print,
+    net: Net,
+    s: &[u8],
+    call: u32,
+    event: u32,
+    out: &mut [u8],
+) -> io::Result<()> {
     let left = left_by(net, s, call, event);
     let checked = left.checked;
     if let Checked::Refused(refusal) = checked {
-        refused(refusal);
-        return;
+        return refused(rt, refusal);
     }
     match call {
-        JUDGE => judged(values::judge_event(net, left.observer, event)),
-        KNOWN => known(values::is_known(net, left.observer)),
+        JUDGE => judged(rt, values::judge_event(net, left.observer, event)),
+        KNOWN => known(rt, values::is_known(net, left.observer)),
         _ => {
             let wrote = values::write_observer(net, left.observer, out);
-            written(wrote, out);
+            written(rt, wrote, out)
         }
     }
 }

@@ -2,6 +2,8 @@
 // answers.
 #![tactic(auto)]
 
+ghost use Rattle.std.specs.Prelude.{◌≤◌, length, IfOk};
+
 mod calls;
 mod counts;
 mod descriptions;
@@ -11,7 +13,8 @@ mod older;
 mod words;
 
 use input::{after, end_of, number_at, part};
-use libc::STDIN_FILENO;
+use std::io;
+use std::io::{Read, Stdin};
 use words::put;
 
 // What a case asks: a call of the observer, or what its description is read as.
@@ -35,28 +38,44 @@ const DENSE: u32 = 9;
 
 const SPARSE: u32 = 10;
 
-fn main() {
+fn main(rt: HostRuntime) -> io::Result<()> {
     // more than the list of cases has
     let mut space = [0u8; 262144];
-    let count = io::read_full(STDIN_FILENO, &mut space);
-    cases(input::first(&space, count));
+    let count = read_full(&mut rt.stdin(), &mut space)?;
+    cases(&rt, input::first(&space, count))
 }
 
-fn cases(input: &[u8]) {
+// Reads until the buffer is full or the input ends: how many bytes it has then.
+fn read_full(stdin: &mut Stdin, space: &mut [u8]) -> io::Result<usize>
+    ensures { IfOk result (λ count. count ≤ length space.new) }
+{
+    let mut held = 0;
+    while held < space.len() {
+        let came = stdin.read(&mut space[held..])?;
+        if came == 0 {
+            return Ok(held);
+        }
+        held += came;
+    }
+    Ok(held)
+}
+
+fn cases(rt: &impl Print, input: &[u8]) -> io::Result<()> {
     let mut at = 0;
     while at < input.len() {
-        let next = one_case(input, at);
+        let next = one_case(rt, input, at)?;
         if next <= at {
-            return;
+            return Ok(());
         }
         at = next;
     }
+    Ok(())
 }
 
 // A label, a description, a state and a list of places, each after its length, then the call, the
 // event and the rooms for a description and for a state; the position after them, or the input's end if
 // they are cut short.
-fn one_case(input: &[u8], at: usize) -> usize {
+fn one_case(rt: &impl Print, input: &[u8], at: usize) -> io::Result<usize> {
     let description = end_of(input, at);
     let state = end_of(input, description);
     let places = end_of(input, state);
@@ -64,9 +83,10 @@ fn one_case(input: &[u8], at: usize) -> usize {
     let at_event = after(input, at_call);
     let at_described = after(input, at_event);
     let at_room = after(input, at_described);
-    put(part(input, at));
-    put(b":");
+    put(rt, part(input, at))?;
+    put(rt, b":")?;
     answer(
+        rt,
         part(input, description),
         part(input, state),
         part(input, places),
@@ -74,13 +94,14 @@ fn one_case(input: &[u8], at: usize) -> usize {
         number_at(input, at_event),
         number_at(input, at_described) as usize,
         number_at(input, at_room) as usize,
-    );
-    put(b"\n");
-    after(input, at_room)
+    )?;
+    put(rt, b"\n")?;
+    Ok(after(input, at_room))
 }
 
 // If a byte is changed, the event is its position; of a head count it is the number of tokens.
 fn answer<'a>(
+    rt: &impl Print,
     d: &'a [u8],
     s: &'a [u8],
     places: &'a [u8],
@@ -88,14 +109,14 @@ fn answer<'a>(
     event: u32,
     described_room: usize,
     room: usize,
-) {
+) -> io::Result<()> {
     match call {
-        DESCRIBE => descriptions::describe(d),
-        CHANGED => descriptions::changed(d, event as usize),
-        COUNT => counts::answers(d, s, places, event, described_room, room),
-        OLDER => older::answers(d, s, room),
-        DENSE => editions::answers(d, s, call, room),
-        SPARSE => editions::answers(d, s, call, room),
-        _ => calls::answers(d, s, call, event, room),
+        DESCRIBE => descriptions::describe(rt, d),
+        CHANGED => descriptions::changed(rt, d, event as usize),
+        COUNT => counts::answers(rt, d, s, places, event, described_room, room),
+        OLDER => older::answers(rt, d, s, room),
+        DENSE => editions::answers(rt, d, s, call, room),
+        SPARSE => editions::answers(rt, d, s, call, room),
+        _ => calls::answers(rt, d, s, call, event, room),
     }
 }

@@ -1,73 +1,76 @@
 // Answers in words, to standard output.
 use crate::input::first;
 use codec::{Wrote, WroteBoth};
-use libc::STDOUT_FILENO;
 use net::{Answer, Known, Verdict};
+use std::io;
 
-pub fn written(wrote: Wrote, out: &[u8]) {
+pub fn written(rt: &impl Print, wrote: Wrote, out: &[u8]) -> io::Result<()> {
     match wrote {
-        Wrote::Bytes(count) => bytes(first(out, count)),
-        Wrote::Refused(refusal) => refused(refusal),
+        Wrote::Bytes(count) => bytes(rt, first(out, count)),
+        Wrote::Refused(refusal) => refused(rt, refusal),
     }
 }
 
 // The description and the state.
-pub fn written_both<'a>(wrote: WroteBoth, described: &'a [u8], out: &'a [u8]) {
+pub fn written_both<'a>(
+    rt: &impl Print,
+    wrote: WroteBoth,
+    described: &'a [u8],
+    out: &'a [u8],
+) -> io::Result<()> {
     match wrote {
         WroteBoth::Bytes(count, state_count) => {
-            bytes(first(described, count));
-            put(b",");
-            bytes(first(out, state_count));
+            bytes(rt, first(described, count))?;
+            put(rt, b",")?;
+            bytes(rt, first(out, state_count))
         }
-        WroteBoth::Refused(refusal) => refused(refusal),
+        WroteBoth::Refused(refusal) => refused(rt, refusal),
     }
 }
 
-fn bytes(written: &[u8]) {
-    let mut i = 0;
-    while i < written.len() {
-        byte(written[i]);
-        i += 1;
+fn bytes(rt: &impl Print, written: &[u8]) -> io::Result<()> {
+    for value in written {
+        byte(rt, *value)?;
     }
+    Ok(())
 }
 
-fn byte(value: u8) {
-    put(b" ");
-    io::print_hex(STDOUT_FILENO, value as u64, 2);
+fn byte(rt: &impl Print, value: u8) -> io::Result<()> {
+    print!(rt; " {value:02x}")
 }
 
-pub fn judged(answer: Answer) {
+pub fn judged(rt: &impl Print, answer: Answer) -> io::Result<()> {
     match answer {
         Answer::Given(verdict) => match verdict {
-            Verdict::Allow => put(b" allow"),
-            Verdict::Hold(limit) => numbered(b" hold ", limit as usize),
+            Verdict::Allow => put(rt, b" allow"),
+            Verdict::Hold(limit) => numbered(rt, b" hold ", limit as usize),
         },
-        Answer::Refused(refusal) => refused(refusal),
+        Answer::Refused(refusal) => refused(rt, refusal),
     }
 }
 
-pub fn known(answer: Known) {
+pub fn known(rt: &impl Print, answer: Known) -> io::Result<()> {
     match answer {
-        Known::Yes => put(b" yes"),
-        Known::No => put(b" no"),
-        Known::Refused(refusal) => refused(refusal),
+        Known::Yes => put(rt, b" yes"),
+        Known::No => put(rt, b" no"),
+        Known::Refused(refusal) => refused(rt, refusal),
     }
 }
 
-pub fn refused(refusal: u32) {
-    numbered(b" refused ", refusal as usize);
+pub fn refused(rt: &impl Print, refusal: u32) -> io::Result<()> {
+    numbered(rt, b" refused ", refusal as usize)
 }
 
 // A text and a number after it.
-pub fn numbered(text: &[u8], number: usize) {
-    put(text);
-    decimal(number);
+pub fn numbered(rt: &impl Print, text: &[u8], number: usize) -> io::Result<()> {
+    put(rt, text)?;
+    decimal(rt, number)
 }
 
-pub fn decimal(number: usize) {
-    io::print_decimal(STDOUT_FILENO, number as u64);
+pub fn decimal(rt: &impl Print, number: usize) -> io::Result<()> {
+    rt.print(number)
 }
 
-pub fn put(text: &[u8]) {
-    io::write_all(STDOUT_FILENO, text);
+pub fn put(rt: &impl Print, text: &[u8]) -> io::Result<()> {
+    rt.write_all(text)
 }

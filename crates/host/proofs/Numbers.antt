@@ -5,14 +5,11 @@ use mathlib.Core.Logic.{◌↔◌}
 use lib.IntN.{pos}
 use Rattle.theory.proofs.Answers.{clash}
 use Rattle.codec.specs.declared.Wrote.{Wrote}
-use Rattle.codec.specs.declared.Wrote.TheVariants as Wrote
 use Rattle.codec.specs.declared.WroteBoth.{WroteBoth}
-use Rattle.codec.specs.declared.WroteBoth.TheVariants as WroteBoth
 use Rattle.net.specs.declared.Verdict.TheVariants.{Allow, Hold}
 use Rattle.net.specs.declared.Answer.{Answer}
 use Rattle.net.specs.declared.Answer.TheVariants.{Given, Refused}
 use Rattle.net.specs.declared.Known.{Known}
-use Rattle.net.specs.declared.Known.TheVariants as Known
 use Rattle.host.specs.Numbers.{refusal_number, wrote_number, wrote_both_number, answer_number, known_number}
 
 -- a refusal

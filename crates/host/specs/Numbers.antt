@@ -1,15 +1,11 @@
 -- The numbers that the host gets for answers (01, "Bytes": "the host's functions take only numbers and byte slices"; docs/DECISIONS.md, point 8).
 use Rattle.std.specs.Prelude.{ℕ, ◌+◌, ◌*◌, ◌<◌, ◌^◌, ℤ, pos, neg_ℤ}
 use Rattle.codec.specs.declared.Wrote.{Wrote}
-use Rattle.codec.specs.declared.Wrote.TheVariants as Wrote
 use Rattle.codec.specs.declared.WroteBoth.{WroteBoth}
-use Rattle.codec.specs.declared.WroteBoth.TheVariants as WroteBoth
 use Rattle.net.specs.declared.Verdict.{Verdict}
 use Rattle.net.specs.declared.Verdict.TheVariants.{Allow, Hold}
 use Rattle.net.specs.declared.Answer.{Answer}
-use Rattle.net.specs.declared.Answer.TheVariants as Answer
 use Rattle.net.specs.declared.Known.{Known}
-use Rattle.net.specs.declared.Known.TheVariants as Known
 
 -- "a refusal with its number": minus the number, which is from 1 to 18
 abbrev pub refusal_number : ℕ → ℤ

@@ -19,7 +19,6 @@ use Rattle.description.specs.Grammar.{description}
 use Rattle.description.specs.Read.{longest_description, description_read}
 use Rattle.description.proofs.Longest.{longer-refused, longer-read}
 use Rattle.journal.specs.declared.input.Next.{Next}
-use Rattle.journal.specs.declared.input.Next.TheVariants as Next
 use Rattle.journal.specs.Lines.{refused_bytes, longest_line}
 use Rattle.journal.specs.Printed.{whole, opening, printed_from, printed}
 use Rattle.journal.specs.Passing.{Tells, Sized}

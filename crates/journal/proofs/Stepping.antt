@@ -15,7 +15,6 @@ use Rattle.codec.proofs.Joined.{first-at}
 use Rattle.net.specs.declared.Net.{Net}
 use Rattle.net.specs.declared.Observed.{Observed}
 use Rattle.net.specs.declared.Answer.{Answer}
-use Rattle.net.specs.declared.Answer.TheVariants as Answer
 use Rattle.net.specs.declared.Checked.{Checked}
 use Rattle.net.specs.declared.Checked.TheVariants.{Good, Refused}
 use Rattle.net.specs.Bounds.{most_places, most_groups}

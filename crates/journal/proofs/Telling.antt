@@ -7,6 +7,7 @@ use lib.ListN.{length, drop, length-drop, length-append}
 use Rattle.numbers.specs.declared.Read.TheVariants.{Number, Nothing}
 use Rattle.numbers.specs.Number.{longest_number, number_at}
 use Rattle.numbers.proofs.Number.{number-within, form-length-bounds}
+use Rattle.codec.specs.Reader.{no, number}
 use Rattle.codec.proofs.Reader.{number-at, number-none}
 use Rattle.codec.proofs.Inverse.{number-back}
 use Rattle.codec.proofs.Longest.{extended, number-longer, number-extended}
@@ -19,12 +20,19 @@ module _ (seen : List ℕ) (at : ℕ) where
       let within = number-within seen at n next e in
       (within.0, within.1, λ rest. number-longer (drop at seen) rest n (drop next seen) (number-at seen at n next e))
 
-  pub tells_none : at + longest_number ≤ length seen → number_at seen at ≡ Nothing → Tells seen at Next.IllFormed
-  tells_none enough e =
-      (omega arith, λ rest. number-extended (drop at seen) rest (simp length-drop (omega arith)) ∙ ap (extended rest) (number-none seen at e))
+  -- fewer than five bytes may yet be followed by more of the number
+  pub told_short : number_at seen at ≡ Nothing → number (drop at seen) ≡ no 1
+  told_short e = number-none seen at e
+
+  pub told_none : (rest : List ℕ) → at + longest_number ≤ length seen → number_at seen at ≡ Nothing → number (drop at seen ++ rest) ≡ no 1
+  told_none rest enough e =
+      number-extended (drop at seen) rest (simp length-drop (omega arith)) ∙ ap (extended rest) (number-none seen at e)
 
 -- a number at the front has at most five bytes
 pub front-short : (seen : List ℕ) (n next : ℕ) → Tells seen 0 (Next.Number n next) → next ≤ longest_number
 front-short seen n next tells =
     omega
     (arith, form-length-bounds n, tells.1, simp (length-append, length-drop) at (ap length (number-back (seen ++ []) n (drop next seen ++ []) (tells.2 [])).1))
+
+-- what the absence of a number tells
+pub ruleset telling = (told_short, told_none)

@@ -17,10 +17,8 @@ use Rattle.net.specs.Answers.{answer_of}
 use Rattle.journal.specs.declared.input.Next.{Next}
 use Rattle.journal.specs.declared.input.Next.TheVariants.{Number, IllFormed, Short}
 use Rattle.journal.specs.declared.opening.Located.{Located}
-use Rattle.journal.specs.declared.opening.Located.TheVariants as Located
 use Rattle.journal.specs.declared.opening.Opened.{Opened}
 use Rattle.journal.specs.declared.events.Stop.{Stop}
-use Rattle.journal.specs.declared.events.Stop.TheVariants as Stop
 use Rattle.journal.specs.declared.events.Pass.{Pass}
 use Rattle.journal.specs.Printed.{state_after, lines, printed}
 

@@ -1,11 +1,8 @@
 -- What reads leave in a buffer.
 use Rattle.std.specs.Prelude.{ℕ, ◌+◌, ◌≤◌, ◌<◌}
 use Rattle.journal.specs.declared.streams.Once.{Once}
-use Rattle.journal.specs.declared.streams.Once.TheVariants as Once
 use Rattle.journal.specs.declared.streams.More.{More}
-use Rattle.journal.specs.declared.streams.More.TheVariants as More
 use Rattle.journal.specs.declared.streams.Filled.{Filled}
-use Rattle.journal.specs.declared.streams.Filled.TheVariants as Filled
 
 -- the bytes that one call moved lie after the position, and before the end
 abbrev pub Moves : ℕ → ℕ → Once → Type 0

@@ -141,6 +141,7 @@ fn step_event(
 
 // The input ends with these bytes, which tell no number: how many bytes were put out, none if
 // there are none.
+#[tactic(auto, using(crate::proofs::Passed::none_left))]
 pub fn leave(left: usize, out: &mut [u8]) -> usize
     requires { longest_line ≤ length out.old }
     ensures within { result ≤ length out.new }

@@ -12,6 +12,7 @@ pub enum Next {
     Short,
 }
 
+#[tactic(auto, using(crate::proofs::Telling::telling))]
 pub fn next_number(seen: &[u8], at: usize) -> Next
     requires { at ≤ length seen.now }
     ensures { Tells seen.now at result }

@@ -21,88 +21,102 @@ use net::{Checked, Net, Observer};
 use opening::Located;
 use streams::{Filled, More, Skipped};
 
-fn main() {
+fn main(rt: HostRuntime) {
     // 32,768 bytes: more than the longest description has, 24,037, and its length before it
     let mut space = [0u8; 32768];
     let mut out = [0u8; 32768];
-    journal(&mut space, &mut out);
+    journal(&rt, &mut space, &mut out);
 }
 
-fn journal(space: &mut [u8], out: &mut [u8])
+fn journal(rt: &HostRuntime, space: &mut [u8], out: &mut [u8])
     requires space { longest_number + longest_description + longest_number ≤ length space.old }
     requires out { longest_line ≤ length out.old }
 {
-    let Filled::To(held) = streams::fill(space, 0, numbers::LONGEST_NUMBER) else {
+    let Filled::To(held) = streams::fill(rt, space, 0, numbers::LONGEST_NUMBER) else {
         return;
     };
     let located = opening::locate(&space[..held], out);
     match located {
         Located::Refused(used) => {
-            streams::write_out(out, used);
+            streams::write_out(rt, out, used);
         }
         Located::At(start, size) => {
-            describe(space, held, start, size, out);
+            describe(rt, space, held, start, size, out);
         }
     }
 }
 
 // The description, whose size is known and whose first bytes are in the buffer.
-fn describe(space: &mut [u8], held: usize, start: usize, size: usize, out: &mut [u8])
+fn describe(
+    rt: &HostRuntime,
+    space: &mut [u8],
+    held: usize,
+    start: usize,
+    size: usize,
+    out: &mut [u8],
+)
     requires space { longest_number + longest_description + longest_number ≤ length space.old }
     requires held { (start ≤ held) × (held ≤ length space.old) × (start ≤ longest_number) }
     requires out { longest_line ≤ length out.old }
 {
     let room = space.len() - start;
     if room < size {
-        describe_long(space, held, start, size - room, out);
+        describe_long(rt, space, held, start, size - room, out);
         return;
     }
     let end = start + size;
-    let Filled::To(held) = streams::fill(space, held, end) else {
+    let Filled::To(held) = streams::fill(rt, space, held, end) else {
         return;
     };
     if held < end {
         let used = opening::cut_short(out);
-        streams::write_out(out, used);
+        streams::write_out(rt, out, used);
         return;
     }
     let opened = opening::open(&space[..held], start, end, out);
     let checked = opened.checked;
     match checked {
         Checked::Refused(_) => {
-            streams::write_out(out, opened.used);
+            streams::write_out(rt, out, opened.used);
         }
         Checked::Good => {
-            run(opened.net, opened.observer, space, end, held, out);
+            run(rt, opened.net, opened.observer, space, end, held, out);
         }
     }
 }
 
 // A description that goes on for `beyond` bytes after the buffer. It is refused, but a length past the
 // input comes first.
-fn describe_long(space: &mut [u8], held: usize, start: usize, beyond: usize, out: &mut [u8])
+fn describe_long(
+    rt: &HostRuntime,
+    space: &mut [u8],
+    held: usize,
+    start: usize,
+    beyond: usize,
+    out: &mut [u8],
+)
     requires space { longest_number + longest_description + longest_number ≤ length space.old }
     requires held { (held ≤ length space.old) × (start ≤ longest_number) }
     requires out { longest_line ≤ length out.old }
 {
     let room = space.len();
-    let Filled::To(held) = streams::fill(space, held, room) else {
+    let Filled::To(held) = streams::fill(rt, space, held, room) else {
         return;
     };
     if held < room {
         let used = opening::cut_short(out);
-        streams::write_out(out, used);
+        streams::write_out(rt, out, used);
         return;
     }
     let used = opening::refuse_long(space, start, out);
-    let skipped = streams::skip(space, beyond);
+    let skipped = streams::skip(rt, space, beyond);
     match skipped {
         Skipped::All => {
-            streams::write_out(out, used);
+            streams::write_out(rt, out, used);
         }
         Skipped::End => {
             let used = opening::cut_short(out);
-            streams::write_out(out, used);
+            streams::write_out(rt, out, used);
         }
         Skipped::Failed => {}
     }
@@ -110,7 +124,15 @@ fn describe_long(space: &mut [u8], held: usize, start: usize, beyond: usize, out
 
 // The events from the position `start` on; the buffer holds the first `held` bytes. What was put
 // out is written before each read: a line never waits for the next event.
-fn run(net: Net, observer: Observer, space: &mut [u8], start: usize, held: usize, out: &mut [u8])
+fn run(
+    rt: &HostRuntime,
+    net: Net,
+    observer: Observer,
+    space: &mut [u8],
+    start: usize,
+    held: usize,
+    out: &mut [u8],
+)
     requires running { Running net observer.estimates observer.remainders }
     requires held { (start ≤ held) × (held ≤ length space.old) }
     requires out { longest_line ≤ length out.old }
@@ -131,7 +153,7 @@ fn run(net: Net, observer: Observer, space: &mut [u8], start: usize, held: usize
             &mut remainders,
             out,
         );
-        if !streams::write_out(out, pass.used) {
+        if !streams::write_out(rt, out, pass.used) {
             return;
         }
         at = pass.at;
@@ -144,9 +166,9 @@ fn run(net: Net, observer: Observer, space: &mut [u8], start: usize, held: usize
             Stop::Short => {
                 let left = end - at;
                 streams::move_down(space, at, left);
-                let more = streams::read_more(space, left);
+                let more = streams::read_more(rt, space, left);
                 let More::Bytes(came) = more else {
-                    finish(left, more, out);
+                    finish(rt, left, more, out);
                     return;
                 };
                 at = 0;
@@ -157,11 +179,11 @@ fn run(net: Net, observer: Observer, space: &mut [u8], start: usize, held: usize
 }
 
 // The input has ended: the bytes that are left of it tell no number.
-fn finish(left: usize, more: More, out: &mut [u8])
+fn finish(rt: &HostRuntime, left: usize, more: More, out: &mut [u8])
     requires { longest_line ≤ length out.old }
 {
     if let More::End = more {
         let used = events::leave(left, out);
-        streams::write_out(out, used);
+        streams::write_out(rt, out, used);
     }
 }

@@ -3,7 +3,7 @@
 ghost use Rattle.std.specs.Prelude.{ℕ, ◌+◌, ◌≤◌, ◌≡◌, length, take, drop};
 ghost use Rattle.journal.specs.Streams.{Moves, Came, Holds};
 
-use libc::{EINTR, STDERR_FILENO, STDIN_FILENO, STDOUT_FILENO};
+use std::io::{Error, ErrorKind, Read, Write};
 
 // What one call moved: some bytes; none, at the input's end; nothing, since it was interrupted; or it
 // failed, which was told.
@@ -31,7 +31,7 @@ pub enum Filled {
 }
 
 // Reads until the buffer has `wanted` bytes or the input ends.
-pub fn fill(space: &mut [u8], held: usize, wanted: usize) -> Filled
+pub fn fill(rt: &HostRuntime, space: &mut [u8], held: usize, wanted: usize) -> Filled
     requires held { held ≤ length space.old }
     requires wanted { wanted ≤ length space.old }
     ensures answer { Holds held (length space.old) result }
@@ -39,7 +39,7 @@ pub fn fill(space: &mut [u8], held: usize, wanted: usize) -> Filled
 {
     let mut end = held;
     while end < wanted {
-        let more = read_more(space, end);
+        let more = read_more(rt, space, end);
         match more {
             More::Bytes(count) => {
                 end += count;
@@ -56,7 +56,7 @@ pub fn fill(space: &mut [u8], held: usize, wanted: usize) -> Filled
 }
 
 // Reads some bytes after those that the buffer has.
-pub fn read_more(space: &mut [u8], held: usize) -> More
+pub fn read_more(rt: &HostRuntime, space: &mut [u8], held: usize) -> More
     requires { held ≤ length space.old }
     ensures answer { Came held (length space.old) result }
     ensures kept { take held space.new ≡ take held space.old }
@@ -65,7 +65,7 @@ pub fn read_more(space: &mut [u8], held: usize) -> More
     let mut turns = u64::MAX;
     while 0 < turns {
         turns -= 1;
-        let once = read_once(space, held);
+        let once = read_once(rt, space, held);
         match once {
             Once::Moved(count) => {
                 return More::Bytes(count);
@@ -82,24 +82,22 @@ pub fn read_more(space: &mut [u8], held: usize) -> More
     More::Failed
 }
 
-fn read_once(space: &mut [u8], held: usize) -> Once
+fn read_once(rt: &HostRuntime, space: &mut [u8], held: usize) -> Once
     requires { held ≤ length space.old }
     ensures answer { Moves held (length space.old) result }
     ensures kept { take held space.new ≡ take held space.old }
 {
-    let got = libc::read(STDIN_FILENO, &mut space[held..]);
-    let count = io::count(got, &space[held..]);
-    if 0 < count {
-        return Once::Moved(count);
+    let mut stdin = rt.stdin();
+    let got = stdin.read(&mut space[held..]);
+    match got {
+        Ok(0) => Once::End,
+        Ok(count) => Once::Moved(count),
+        Err(error) => failure(rt, "standard input", error),
     }
-    if 0 <= got {
-        return Once::End;
-    }
-    failure(b"journal: standard input")
 }
 
 // Writes the first `used` bytes of the output; false if that failed.
-pub fn write_out(out: &[u8], used: usize) -> bool
+pub fn write_out(rt: &HostRuntime, out: &[u8], used: usize) -> bool
     requires { used ≤ length out.now }
 {
     let mut done = 0;
@@ -109,7 +107,7 @@ pub fn write_out(out: &[u8], used: usize) -> bool
         if used <= done {
             return true;
         }
-        let once = write_once(out, done, used);
+        let once = write_once(rt, out, done, used);
         match once {
             Once::Moved(count) => {
                 done += count;
@@ -123,30 +121,30 @@ pub fn write_out(out: &[u8], used: usize) -> bool
     false
 }
 
-fn write_once(out: &[u8], done: usize, used: usize) -> Once
+fn write_once(rt: &HostRuntime, out: &[u8], done: usize, used: usize) -> Once
     requires { (done ≤ used) × (used ≤ length out.now) }
     ensures { Moves done used result }
 {
-    let put = libc::write(STDOUT_FILENO, &out[done..used]);
-    let count = io::count(put, &out[done..used]);
-    if 0 < count {
-        return Once::Moved(count);
+    let mut stdout = rt.stdout();
+    let put = stdout.write(&out[done..used]);
+    match put {
+        Ok(0) => {
+            let _ = eprintln!(rt; "journal: standard output takes nothing");
+            Once::Failed
+        }
+        Ok(count) => Once::Moved(count),
+        Err(error) => failure(rt, "standard output", error),
     }
-    if 0 <= put {
-        io::write_all(STDERR_FILENO, b"journal: standard output takes nothing\n");
-        return Once::Failed;
-    }
-    failure(b"journal: standard output")
 }
 
-// A call that failed, by its errno: it was interrupted, or that is told of the stream.
-fn failure(stream: &[u8]) -> Once
+// A call that failed, by its error: it was interrupted, or that is told of the stream.
+fn failure(rt: &HostRuntime, stream: &str, error: Error) -> Once
     ensures { (at end : ℕ) → Moves at end result }
 {
-    if os::errno() == EINTR {
+    if error.kind() == ErrorKind::Interrupted {
         return Once::Interrupted;
     }
-    os::fail(stream);
+    let _ = eprintln!(rt; "journal: {stream}: {error}");
     Once::Failed
 }
 
@@ -159,10 +157,10 @@ pub enum Skipped {
     Failed,
 }
 
-pub fn skip(space: &mut [u8], count: usize) -> Skipped {
+pub fn skip(rt: &HostRuntime, space: &mut [u8], count: usize) -> Skipped {
     let mut left = count;
     while 0 < left {
-        let more = read_more(space, 0);
+        let more = read_more(rt, space, 0);
         match more {
             More::Bytes(came) => {
                 if left <= came {

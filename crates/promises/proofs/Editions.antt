@@ -6,7 +6,6 @@ use Rattle.theory.specs.Nets.{Net, recounted}
 use Rattle.theory.specs.Recording.{State}
 use Rattle.theory.specs.Replies.{Reply, value, refusal, ◌>>=◌}
 use Rattle.theory.specs.Answers.{recorded, head_counted}
-use Rattle.codec.specs.Output.{Pair}
 use Rattle.net.specs.declared.Edition.{Edition}
 use Rattle.net.specs.declared.Net as Values
 use Rattle.net.specs.declared.Observer.{Observer}

@@ -17,7 +17,6 @@ use Rattle.theory.specs.Nets.{Net, Marking}
 use Rattle.theory.specs.Demands.{Answered, Demand3}
 use Rattle.theory.specs.Demands as Demands
 use Rattle.codec.specs.declared.Wrote.{Wrote}
-use Rattle.codec.specs.declared.Wrote.TheVariants as Wrote
 use Rattle.codec.specs.declared.WroteBoth.TheVariants as WroteBoth
 use Rattle.codec.specs.Output.{wrote_of, answer, Pair, wrote_both_of, both_answer}
 use Rattle.net.specs.declared.Observer.{Observer}

@@ -2,7 +2,6 @@
 use Rattle.std.specs.Prelude.{ℕ, List, [], ◌∷◌}
 use Rattle.theory.specs.Replies.{Reply, ◌>>=◌}
 use Rattle.codec.specs.declared.Wrote.{Wrote}
-use Rattle.codec.specs.declared.Wrote.TheVariants as Wrote
 use Rattle.net.specs.declared.Net.{Net}
 use Rattle.net.specs.declared.Observer.{Observer}
 use Rattle.net.specs.declared.Verdict.TheVariants.{Allow, Hold}

@@ -13,121 +13,112 @@ use Rattle.journal.proofs.Passed.{Going, going-none, going_more, going-full, goi
 use Rattle.journal.proofs.events.pass_events.Statement.{statement}
 use Rattle.journal.proofs.events.pass_events.Tie as tie
 
-abbrev invariant-loop : tie.invariant-loop
+abbrev invariant-loop : tie.invariant-loop-out
 invariant-loop seen from estimates₀ remainders₀ out₀ net at₀ used₀ estimates remainders out at used =
     Going net seen from estimates₀ remainders₀ out₀ estimates remainders out at used
 
-abbrev decreases-loop : tie.decreases-loop
+abbrev decreases-loop : tie.decreases-loop-out
 decreases-loop seen from estimates₀ remainders₀ out₀ net at₀ used₀ estimates remainders out at used = length seen - at
 
 -- ---- places of the code
 
-abbrev stepped : tie.After-unplaced-numbers-arg2 invariant-loop decreases-loop → tie.After-step-event invariant-loop decreases-loop
-stepped c = c.before.before.before
+abbrev stepped : tie.After-unplaced_numbers-arg-1 invariant-loop decreases-loop → tie.After-step_event-answer invariant-loop decreases-loop
+stepped c = c.before
 
-abbrev numbered : tie.After-numbers invariant-loop decreases-loop → tie.After-unplaced-numbers invariant-loop decreases-loop
-numbered c = c.before.before.before
+abbrev numbered : tie.After-numbers-1 invariant-loop decreases-loop → tie.After-unplaced_numbers-numbers invariant-loop decreases-loop
+numbered c = c.before.before
 
-abbrev known : tie.After-step-event-arg2 invariant-loop decreases-loop → tie.After-known-told invariant-loop decreases-loop
+abbrev known : tie.After-step_event-arg-in-Number-1 invariant-loop decreases-loop → tie.In-Number invariant-loop decreases-loop
 known c = c.before.before
 
 -- ---- what is known there
 
 -- there is room for a line
-room : (c : tie.In-loop invariant-loop decreases-loop) → c.before.loop.used + longest_line ≤ length c.before.loop.out
-room c = omega (arith, c.loop-test.true, c.before.loop.invariant.fits)
+room : (c : tie.In-loop-out invariant-loop decreases-loop) → c.loop-out.used + longest_line ≤ length c.loop-out.out
+room c = omega (arith, c.loop-out-test.true, c.loop-out.invariant.fits)
 
 -- the number at the position
-event : (c : tie.After-known-told invariant-loop decreases-loop)
-    → Tells c.before.before.before.before.before.before.before.before.args.seen.now c.before.before.before.before.before.loop.at (Number c.before.next.given.0.0 c.before.next.given.0.1.0)
-event c = subst (Tells c.before.before.before.before.before.before.before.before.args.seen.now c.before.before.before.before.before.loop.at) c.before.next.given.1 c.before.before.before.next-number.ensures
+event : (c : tie.In-Number invariant-loop decreases-loop)
+    → Tells c.args.seen.now c.loop-out.at (Number c.in-Number.event c.in-Number.after)
+event c = subst (Tells c.args.seen.now c.loop-out.at) c.in-Number.is c.next_number-next.ensures
 
-loop-holds : tie.Need-loop-init invariant-loop decreases-loop
+loop-holds : tie.Need-loop-out-init invariant-loop decreases-loop
 loop-holds c =
-    let start = c.before.before in
-    going-none start.args.seen.now start.args.from start.args.out.now start.requires.0 start.requires.1
+    going-none c.args.seen.now c.args.from c.args.out.now c.requires.0 c.requires.1
 
-sub-loop : tie.Need-overflow-sub-loop invariant-loop decreases-loop
-sub-loop c = c.loop.invariant.fits
+sub-loop : tie.Need-overflow_sub-out invariant-loop decreases-loop
+sub-loop c = c.loop-out.invariant.fits
 
-next-number-requires : tie.Need-next-number-requires invariant-loop decreases-loop
-next-number-requires c κs = c.before.loop.invariant.within
+next-number-requires : tie.Need-next_number-next-requires invariant-loop decreases-loop
+next-number-requires c κs = c.loop-out.invariant.within
 
-enum_told : tie.Need-enum-told invariant-loop decreases-loop
+enum_told : tie.Need-enum_told-1 invariant-loop decreases-loop
 enum_told c = search rules
 
-same_length : tie.Need-same-length invariant-loop decreases-loop
+same_length : tie.Need-shape_of-out-in-Short invariant-loop decreases-loop
 same_length c = search rules
 
-returns : tie.Need-returns invariant-loop decreases-loop
+returns : tie.Need-returns-in-Short invariant-loop decreases-loop
 returns c =
-    let call = c.before.before in
-    let looped = call.before.before in
-    let going = looped.loop.invariant in
-    let tells = subst (Tells looped.before.before.before.args.seen.now looped.loop.at) c.enum_told.given.1 call.next-number.ensures in
+    let going = c.loop-out.invariant in
+    let tells = subst (Tells c.args.seen.now c.loop-out.at) c.in-Short.is c.next_number-next.ensures in
     ((going.within, going.fits), (tells, going-short going))
 
-enum-told-2 : tie.Need-enum-told-2 invariant-loop decreases-loop
+enum-told-2 : tie.Need-enum_told-in-IllFormed invariant-loop decreases-loop
 enum-told-2 c = search rules
 
-put-refusal-requires : tie.Need-put-refusal-requires invariant-loop decreases-loop
+put-refusal-requires : tie.Need-put_refusal-end-requires invariant-loop decreases-loop
 put-refusal-requires c κs = search rules
 
-same-length-2 : tie.Need-same-length-2 invariant-loop decreases-loop
+same-length-2 : tie.Need-shape_of-out-in-IllFormed invariant-loop decreases-loop
 same-length-2 c = search rules
 
-returns-2 : tie.Need-returns-2 invariant-loop decreases-loop
+returns-2 : tie.Need-returns-in-IllFormed invariant-loop decreases-loop
 returns-2 c =
-    let put = c.before.before in
-    let told = put.before.before in
-    let call = told.before.before in
-    let looped = call.before.before in
-    let going = looped.loop.invariant in
-    let tells = subst (Tells looped.before.before.before.args.seen.now looped.loop.at) told.enum-told2.given.1 call.next-number.ensures in
-    let inside = room call.before in
-    ((going.within, walked-within put.put-refusal.ensures (omega (arith, inside, refused-length 1))), (tt, going-ended going inside tells put.put-refusal.ensures))
+    let going = c.loop-out.invariant in
+    let tells = subst (Tells c.args.seen.now c.loop-out.at) c.in-IllFormed.is c.next_number-next.ensures in
+    let inside = room c.before.before.before.before.before.before in
+    ((going.within, walked-within c.put_refusal-end.ensures (omega (arith, inside, refused-length 1))), (tt, going-ended going inside tells c.put_refusal-end.ensures))
 
-enum-known-next : tie.Need-enum-known-next invariant-loop decreases-loop
+enum-known-next : tie.Need-enum_known-next invariant-loop decreases-loop
 enum-known-next c = search rules
 
-step-event-requires : tie.Need-step-event-requires invariant-loop decreases-loop
+step-event-requires : tie.Need-step_event-answer-requires invariant-loop decreases-loop
 step-event-requires c κs = search rules
 
-unplaced-numbers-requires : tie.Need-unplaced-numbers-requires invariant-loop decreases-loop
+unplaced-numbers-requires : tie.Need-unplaced_numbers-numbers-requires invariant-loop decreases-loop
 unplaced-numbers-requires c κs = search rules
 
-put-line-requires : tie.Need-put-line-requires invariant-loop decreases-loop
+put-line-requires : tie.Need-put_line-used-requires invariant-loop decreases-loop
 put-line-requires c κs =
     let step = stepped (numbered c).before in
-    let inside = room (known step.before).before.before.before.before in
-    let fine = formed step.step-event.ensures.running in
+    let inside = room (known step.before).before.before in
+    let fine = formed step.step_event-answer.ensures.running in
     (inside, (fine.sized.places, fine.sized.groups))
 
-loop-less : tie.Need-loop-smaller invariant-loop decreases-loop
+loop-less : tie.Need-loop-out-smaller invariant-loop decreases-loop
 loop-less c =
     let step = stepped (numbered c.before.before.before).before in
     let tells = event (known step.before) in
     omega (arith, tells.0, tells.1)
 
-loop-again : tie.Need-loop-preserved invariant-loop decreases-loop
+loop-again : tie.Need-loop-out-preserved invariant-loop decreases-loop
 loop-again c =
-    let put = c.before.before in
-    let numbers = numbered put.before in
+    let numbers = numbered c.before.before.before in
     let step = stepped numbers.before in
     let read = known step.before in
-    let inside = read.before.before.before.before in
-    going_more inside.before.loop.inv (room inside) (event read) step.step-event.ensures numbers.unplaced-numbers.ensures put.put-line.ensures
+    going_more read.loop-out.invariant (room read.before.before) (event read) step.step_event-answer.ensures numbers.unplaced_numbers-numbers.ensures c.put_line-used.ensures
 
-same-length-3 : tie.Need-same-length-3 invariant-loop decreases-loop
+same-length-3 : tie.Need-shape_of-out invariant-loop decreases-loop
 same-length-3 c = search rules
 
-returns-3 : tie.Need-returns-3 invariant-loop decreases-loop
+returns-3 : tie.Need-returns invariant-loop decreases-loop
 returns-3 c =
-    let going = c.before.loop.invariant in
+    let going = c.loop-out.invariant in
     ((going.within, going.fits), (tt, going-full going))
 
-pub pass-events-spec : {M : Type 1} → statement M
-pass-events-spec =
+pub pass_events_spec : {M : Type 1} → statement M
+pass_events_spec =
     tie.close
     (tie.spec
     invariant-loop

@@ -9,43 +9,42 @@ use Rattle.journal.specs.Lines.{space, decimal}
 use Rattle.journal.proofs.lines.put_numbers.Statement.{statement}
 use Rattle.journal.proofs.lines.put_numbers.Tie as tie
 
-abbrev invariant-loop : tie.invariant-loop
+abbrev invariant-loop : tie.invariant-loop-i
 invariant-loop out₀ at count numbers next₀ i₀ out next i = Walking true out₀ at count (λ j. space ∷ decimal (get_or numbers j 0)) i out next
 
-abbrev decreases-loop : tie.decreases-loop
+abbrev decreases-loop : tie.decreases-loop-i
 decreases-loop out₀ at count numbers next₀ i₀ out next i = count - i
 
-loop-holds : tie.Need-loop-init invariant-loop decreases-loop
-loop-holds c = walking-none c.before.before.requires.1
+loop-holds : tie.Need-loop-i-init invariant-loop decreases-loop
+loop-holds c = walking-none c.requires.1
 
-mul-put-spaced : tie.Need-overflow-mul-put-spaced invariant-loop decreases-loop
+mul-put-spaced : tie.Need-offset_bounds-numbers-i invariant-loop decreases-loop
 mul-put-spaced c = omega arith
 
-shared-slice-read-put-spaced : tie.Need-shared-slice-read-put-spaced invariant-loop decreases-loop
+shared-slice-read-put-spaced : tie.Need-bounds-numbers-i invariant-loop decreases-loop
 shared-slice-read-put-spaced c = omega arith
 
-put-spaced-requires : tie.Need-put-spaced-requires invariant-loop decreases-loop
-put-spaced-requires c κs = walking-room c.before.before.before.loop.invariant (omega arith)
+put-spaced-requires : tie.Need-put_spaced-next-requires invariant-loop decreases-loop
+put-spaced-requires c κs = walking-room c.loop-i.invariant (omega arith)
 
-add-i : tie.Need-overflow-add-i invariant-loop decreases-loop
+add-i : tie.Need-overflow_add-i invariant-loop decreases-loop
 add-i c = omega arith
 
-loop-less : tie.Need-loop-smaller invariant-loop decreases-loop
+loop-less : tie.Need-loop-i-smaller invariant-loop decreases-loop
 loop-less c = omega arith
 
-loop-again : tie.Need-loop-preserved invariant-loop decreases-loop
+loop-again : tie.Need-loop-i-preserved invariant-loop decreases-loop
 loop-again c =
-    let put = c.before.before in
-    walking-more put.before.before.before.before.loop.invariant (omega arith) put.put-spaced.ensures
+    walking-more c.loop-i.invariant (omega arith) c.put_spaced-next.ensures
 
 returns : tie.Need-returns invariant-loop decreases-loop
-returns c = walking-all c.before.loop.invariant (omega arith)
+returns c = walking-all c.loop-i.invariant (omega arith)
 
-same_length : tie.Need-same-length invariant-loop decreases-loop
+same_length : tie.Need-shape_of-out invariant-loop decreases-loop
 same_length c = walked-length (returns c)
 
-pub put-numbers-spec : {M : Type 1} → statement M
-put-numbers-spec =
+pub put_numbers_spec : {M : Type 1} → statement M
+put_numbers_spec =
     tie.close
     (tie.spec
     invariant-loop

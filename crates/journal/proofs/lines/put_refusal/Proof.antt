@@ -1,7 +1,6 @@
 -- `journal::lines::put_refusal` meets its contract: the word, the number and a newline.
 use mathlib.Core.Bool.{true}
 use native.Mathlib.Omega.{arith}
-use borrow.Author.Rules.{rules}
 use Rattle.codec.specs.Walk.{Room}
 use Rattle.codec.proofs.Walk.{walked-length, walked_both, room-first, room_next}
 use Rattle.journal.specs.Lines.{refused_bytes}
@@ -10,45 +9,35 @@ use Rattle.journal.proofs.lines.put_refusal.Statement.{statement}
 use Rattle.journal.proofs.lines.put_refusal.Tie as tie
 
 -- there is room for all of it
-all : (c : tie.After-slice-known) → Room true c.before.args.out.now c.before.args.at (refused_bytes c.before.args.refusal)
-all c = refused-room c.before.requires (omega arith) c.before.args.refusal
+all : (c : tie.After-slice_known-1) → Room true c.args.out.now c.args.at (refused_bytes c.args.refusal)
+all c = refused-room c.requires (omega arith) c.args.refusal
 
-slice-aggregate-put-text : tie.Need-slice-aggregate-put-text
-slice-aggregate-put-text c = search rules
-
-put-text-requires : tie.Need-put-text-requires
+put-text-requires : tie.Need-put_text-next-requires
 unfolding refused_bytes
-put-text-requires c κs = room-first _ (all c.before.before)
+put-text-requires c κs = room-first _ (all c.before.before.before)
 
-put-number-requires : tie.Need-put-number-requires
+put-number-requires : tie.Need-put_number-next-requires
 unfolding refused_bytes
 put-number-requires c κs =
-    let text = c.before.before.before in
-    room-first _ (room_next (all text.before.before.before) text.put-text.ensures)
+    room-first _ (room_next (all c.before.before.before.before.before.before.before) c.put_text-next.ensures)
 
-put-byte-requires : tie.Need-put-byte-requires
+put-byte-requires : tie.Need-put_byte-requires
 unfolding refused_bytes
 put-byte-requires c κs =
-    let number = c.before.before.before in
-    let text = number.before.before.before.before in
-    room_next (room_next (all text.before.before.before) text.put-text.ensures) number.put-number.ensures
+    room_next (room_next (all c.before.before.before.before.before.before.before.before.before.before.before) c.put_text-next.ensures) c.put_number-next.ensures
 
 returns : tie.Need-returns
 unfolding refused_bytes
 returns c =
-    let last = c.before.before in
-    let number = last.before.before.before.before in
-    let text = number.before.before.before.before in
-    walked_both text.put-text.ensures (walked_both number.put-number.ensures last.put_byte.ensures)
+    walked_both c.put_text-next.ensures (walked_both c.put_number-next.ensures c.put_byte.ensures)
 
-same_length : tie.Need-same-length
+same_length : tie.Need-shape_of-out
 same_length c = walked-length (returns c)
 
-pub put-refusal-spec : {M : Type 1} → statement M
-put-refusal-spec =
+pub put_refusal_spec : {M : Type 1} → statement M
+put_refusal_spec =
     tie.close
     (tie.spec
-    slice-aggregate-put-text
     put-text-requires
     put-number-requires
     put-byte-requires

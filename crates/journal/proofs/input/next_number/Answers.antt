@@ -1,0 +1,7 @@
+-- What follows the bytes changes no number in them.
+use Rattle.std.proofs.Common.{sym, ◌∙◌}
+use Rattle.journal.proofs.Telling.{tells-number}
+use Rattle.journal.proofs.input.next_number.Goals as goal
+
+pub returns-in-Number : goal.returns-in-Number
+returns-in-Number c = tells-number _ _ _ _ (sym c.read_number-read.ensures ∙ c.in-Number.is)
