@@ -25,8 +25,9 @@ LEMMAS = {
 
 def snake(word):
     """`weightsFit` is `weights_fit`; a single capital at the end too, as in `getD`."""
-    if word in SPECIAL:
-        return SPECIAL[word]
+    for old, new in SPECIAL.items():
+        if word == old or word.startswith(old + "_"):
+            return new + word[len(old) :]
     return re.sub(r"([A-Z])", lambda m: "_" + m[1].lower(), word).replace("__", "_")
 
 
