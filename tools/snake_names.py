@@ -1,7 +1,7 @@
 #!/usr/bin/env python3
 """Respells the repository's own definitions, lemmas, fields and constructors: words in snake case, as today's library has them.
 
-usage: python3 tools/snake_names.py [TOP]     after /opt/rattle/port/port.py, once; `--look` only says which names would fall together
+usage: python3 tools/snake_names.py [TOP]     after the kit's port.py, once; `--look` only says which names would fall together
 
 A name of several words that begins with a small letter (`weightsFit`, `part-storedAt`) becomes `weights_fit`, `part-stored_at`. `getD`, where
 a lemma is named after it, is `get_or`, as in the library. Files of src/ are read too, for their clauses, imports and comments: functions,

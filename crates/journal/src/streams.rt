@@ -144,8 +144,23 @@ fn failure(rt: &HostRuntime, stream: &str, error: Error) -> Once
     if error.kind() == ErrorKind::Interrupted {
         return Once::Interrupted;
     }
-    let _ = eprintln!(rt; "journal: {stream}: {error}");
+    let told = format!(in rt.alloc(); "{error}");
+    let _ = match told {
+        Ok(told) => {
+            let words = system_words(told.as_str());
+            eprintln!(rt; "journal: {stream}: {words}")
+        }
+        Err(_) => eprintln!(rt; "journal: {stream}: {error}"),
+    };
     Once::Failed
+}
+
+// The system's words for an error, without the number that std puts after them.
+fn system_words(told: &str) -> &str {
+    match told.split_once(" (os error ") {
+        Some((words, _)) => words,
+        None => told,
+    }
 }
 
 // Reads `count` bytes and drops them, and perhaps some after them. All were there; the input ended
