@@ -42,6 +42,7 @@ pub use Rattle.states.specs.States.Arrays.{state_at, state_read, state_reply}
 pub use Rattle.states.specs.States.Nets.{longest_state, saved}
 pub use Rattle.observer.specs.Bytes.{described_up_to, described, restored_in, state_in, older_state_in}
 pub use Rattle.observer.specs.Bytes.{fresh_reply, record_reply, judge_reply, known_reply, count_reply, older_reply, converted_reply}
-pub use Rattle.values.specs.Values.{both_check, restored_observer, observer_output, recorded_observer, observer_judged, observer_known, observer_unplaced, unplaced_of}
+pub use Rattle.values.specs.Values.{both_check, restored_observer, observer_output, recorded_observer}
+pub use Rattle.values.specs.Values.{observer_judged, observer_known, observer_unplaced, unplaced_of}
 pub use Rattle.host.specs.Numbers.{refusal_number, wrote_number, wrote_both_number, answer_number, known_number}
 pub use Rattle.promises.specs.Lists.{with_state, in_edition, on_bytes, host, kept_description, kept_state, on_values, memory}
