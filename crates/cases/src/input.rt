@@ -1,7 +1,6 @@
 // Numbers of the input, and parts of it that stand after their lengths.
 ghost use Rattle.std.specs.Prelude.{◌≤◌, length};
 
-use numbers::Read;
 
 // The first bytes, or all if there are fewer.
 pub fn first(bytes: &[u8], count: usize) -> &[u8] {
@@ -26,8 +25,8 @@ pub fn end_of(input: &[u8], at: usize) -> usize {
 pub fn number_at(input: &[u8], at: usize) -> u32 {
     let read = numbers::read_number(input, at);
     match read {
-        Read::Number(number, _) => number,
-        Read::Nothing => 0,
+        Some((number, _)) => number,
+        None => 0,
     }
 }
 
@@ -35,7 +34,7 @@ pub fn number_at(input: &[u8], at: usize) -> u32 {
 pub fn after(input: &[u8], at: usize) -> usize
     ensures { result ≤ length input.now }
 {
-    let Read::Number(_, next) = numbers::read_number(input, at) else {
+    let Some((_, next)) = numbers::read_number(input, at) else {
         return input.len();
     };
     if input.len() < next {

@@ -1,10 +1,8 @@
 -- What a call that writes answers and leaves in the lent output, from the reply that is to be written (01: "Calls that write .. answer a refusal
 -- or the number of bytes written to each output"; "A refusal writes nothing. Success writes the first bytes only.").
-use Rattle.std.specs.Prelude.{ℕ, ◌&&◌, List, ◌++◌, length, drop, leb}
+use Rattle.std.specs.Prelude.{ℕ, ◌&&◌, List, ◌++◌, length, drop, leb, Option, Some, None}
 use Rattle.theory.specs.Replies.{Reply, value, refusal, ◌>>=◌, question}
 use Rattle.theory.specs.Answers.{no_room}
-use Rattle.numbers.specs.declared.Written.{Written}
-use Rattle.numbers.specs.declared.Written.TheVariants.{Next, Full}
 use Rattle.codec.specs.declared.Wrote.{Wrote}
 use Rattle.codec.specs.declared.Wrote.TheVariants.{Bytes, Refused}
 use Rattle.codec.specs.declared.WroteBoth.{WroteBoth}
@@ -27,9 +25,9 @@ wrote_reply (Bytes n) = value n
 wrote_reply (Refused n) = refusal n
 
 -- what a number that is written tells: the position after it, or that it does not fit
-abbrev pub written_reply : Written → Reply ℕ
-written_reply (Next at) = value at
-written_reply Full = refusal no_room
+abbrev pub written_reply : Option ℕ → Reply ℕ
+written_reply (Some at) = value at
+written_reply None = refusal no_room
 
 -- the output with the bytes at its front, or as it was
 abbrev pub left_of : List ℕ → Reply (List ℕ) → List ℕ

@@ -1,10 +1,8 @@
 -- Readers: what they find at the front of the bytes left, or the number of the refusal.
-use Rattle.std.specs.Prelude.{ℕ, zero, suc, ◌-◌, List, [], ◌∷◌, Bool, true, false, length, drop}
+use Rattle.std.specs.Prelude.{ℕ, zero, suc, ◌-◌, List, [], ◌∷◌, Bool, true, false, length, drop, Option, Some, None}
 use Rattle.theory.specs.Replies.{Reply, value, refusal}
 use Rattle.codec.specs.declared.Passed.{Passed}
 use Rattle.codec.specs.declared.Passed.TheVariants.{To, Refused}
-use Rattle.numbers.specs.declared.Read.{Read}
-use Rattle.numbers.specs.declared.Read.TheVariants.{Number, Nothing}
 use Rattle.numbers.specs.Number.{Found, found, nothing}
 use Rattle.numbers.specs.Number as Stored
 
@@ -83,9 +81,9 @@ passed_reply (To at) = value at
 passed_reply (Refused n) = refusal n
 
 -- what a number that is read tells: it and the position after it; "Is each stored number complete, shortest and small enough? 1"
-abbrev pub read_reply : Read → Reply (ℕ × ℕ)
-read_reply (Number n at) = value (n, at)
-read_reply Nothing = refusal 1
+abbrev pub read_reply : Option (ℕ × ℕ) → Reply (ℕ × ℕ)
+read_reply (Some (n, at)) = value (n, at)
+read_reply None = refusal 1
 
 -- what it found, or another value if it refused
 abbrev pub found_or : {A : Type 0} → A → Result A → A

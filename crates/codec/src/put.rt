@@ -2,10 +2,10 @@
 ghost use Rattle.std.specs.Prelude.{◌≡◌};
 ghost use Rattle.codec.specs.Walk.{number_end, put_at};
 
-use numbers::Written;
 
 // Measures a number at the position or writes it there, and answers the position after it, or the same
 // one if no position is so large. It writes nothing if there is no room for all of the number's bytes.
+#[tactic(auto, using(crate::proofs::Walk::told), unfolding(crate::specs::Walk::put_at))]
 pub fn put_number(out: &mut [u8], at: usize, number: u32, writing: bool) -> usize
     ensures position { result ≡ number_end at number }
     ensures output { out.new ≡ put_at writing out.old at number }
@@ -13,10 +13,9 @@ pub fn put_number(out: &mut [u8], at: usize, number: u32, writing: bool) -> usiz
     if !writing {
         return number_end(at, number);
     }
-    let written = numbers::write_number(out, at, number);
-    match written {
-        Written::Next(next) => next,
-        Written::Full => number_end(at, number),
+    match numbers::write_number(out, at, number) {
+        Some(next) => next,
+        None => number_end(at, number),
     }
 }
 

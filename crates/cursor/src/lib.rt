@@ -6,7 +6,6 @@ ghost use Rattle.std.specs.Prelude.{◌≡◌};
 ghost use Rattle.numbers.specs.Number.{number_at};
 ghost use Rattle.cursor.specs.Cursors.{position_after, behind, header_numbers};
 
-use numbers::Read;
 
 // The description that is lent, and the position of the next number.
 #[derive(Clone, Copy)]
@@ -24,7 +23,7 @@ impl<'a> Cursor<'a> {
     }
 
     // Takes the next number out: the cursor then stands behind it, or where it stood if none is there.
-    pub fn take<'s>(&'s mut self) -> Read
+    pub fn take(&mut self) -> Option<(u32, usize)>
         ensures { (result ≡ number_at self.old.description.now self.old.at) × (self.new ≡ behind self.old) }
     {
         let at = self.at;
@@ -37,10 +36,10 @@ impl<'a> Cursor<'a> {
 // The first four numbers of a description, each as it was found.
 #[derive(Clone, Copy)]
 pub struct HeaderNumbers {
-    pub edition: Read,
-    pub places: Read,
-    pub events: Read,
-    pub limits: Read,
+    pub edition: Option<(u32, usize)>,
+    pub places: Option<(u32, usize)>,
+    pub events: Option<(u32, usize)>,
+    pub limits: Option<(u32, usize)>,
 }
 
 // "edition 1, P, T, number of limits": the four are taken out one after the other, and not yet judged.
@@ -61,11 +60,11 @@ pub fn header_numbers(description: &[u8]) -> HeaderNumbers
 }
 
 // The position after what was read at a position; the same one if nothing was.
-fn position_after(read: Read, at: usize) -> usize
+fn position_after(read: Option<(u32, usize)>, at: usize) -> usize
     ensures { result ≡ position_after read at }
 {
     match read {
-        Read::Number(_, next) => next,
-        Read::Nothing => at,
+        Some((_, next)) => next,
+        None => at,
     }
 }

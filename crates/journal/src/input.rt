@@ -2,7 +2,7 @@
 ghost use Rattle.std.specs.Prelude.{◌≤◌, length};
 ghost use Rattle.journal.specs.Passing.{Tells};
 
-use numbers::{LONGEST_NUMBER, Read};
+use numbers::LONGEST_NUMBER;
 
 // A number and the position after it; no stored number; or more bytes are needed to tell.
 #[derive(Clone, Copy)]
@@ -19,8 +19,8 @@ pub fn next_number(seen: &[u8], at: usize) -> Next
 {
     let read = numbers::read_number(seen, at);
     match read {
-        Read::Number(number, next) => Next::Number(number, next),
-        Read::Nothing => {
+        Some((number, next)) => Next::Number(number, next),
+        None => {
             if seen.len() - at < LONGEST_NUMBER {
                 Next::Short
             } else {

@@ -2,7 +2,6 @@
 // for each case.
 #![tactic(auto)]
 
-use numbers::{Read, Written};
 use std::io;
 
 fn main(rt: HostRuntime) -> io::Result<()> {
@@ -94,13 +93,13 @@ fn write_case(rt: &impl Print, number: u32, at: usize) -> io::Result<()> {
     put(rt, b"\n")
 }
 
-fn written(rt: &impl Print, answer: Written) -> io::Result<()> {
+fn written(rt: &impl Print, answer: Option<usize>) -> io::Result<()> {
     match answer {
-        Written::Next(after) => {
+        Some(after) => {
             put(rt, b", next ")?;
             decimal(rt, after as u64)?;
         }
-        Written::Full => put(rt, b", full")?,
+        None => put(rt, b", full")?,
     }
     put(rt, b", bytes")
 }
@@ -111,7 +110,7 @@ fn read_case(rt: &impl Print, s: &[u8], at: usize) -> io::Result<()> {
     bytes(rt, s)?;
     put(rt, b" at ")?;
     decimal(rt, at as u64)?;
-    let Read::Number(number, next) = numbers::read_number(s, at) else {
+    let Some((number, next)) = numbers::read_number(s, at) else {
         return put(rt, b": nothing\n");
     };
     put(rt, b": ")?;

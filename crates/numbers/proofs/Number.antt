@@ -1,4 +1,5 @@
 -- The laws of stored numbers: a number is read back from its bytes, and whatever is read has exactly those bytes.
+use Rattle.std.specs.Prelude.{Option, Some}
 use Prim.Native.Nat.{ℕ, zero, suc, ◌+◌, ◌-◌, ◌*◌, ◌/◌, ◌%◌, ◌^◌, ◌≤◌, ◌<◌, max}
 use mathlib.Core.Path.{◌≡◌, refl, sym, ap, ap₂, ◌∙◌}
 use mathlib.Core.List.{List, [], ◌∷◌, ◌++◌}
@@ -12,7 +13,6 @@ use lib.ListN.{length, drop, get_or, length-append, length-drop}
 use lib.Seq.{drop-cons}
 use lib.Dec.{ltb, leb}
 use Rattle.numbers.specs.Number.{largest, groups, form, Found, found, nothing, before, front, small, number, after, number_at}
-use Rattle.numbers.specs.declared.Read.TheVariants.{Number}
 
 -- ---- the groups of a number
 
@@ -249,13 +249,13 @@ pub front-next : (s : List ℕ) (i byte : ℕ) → i < length s → byte ≡ get
 front-next s i byte h e = rw (e, drop-cons s i 0 h, add-one)
 
 -- a number of one byte
-pub at_one : (s : List ℕ) (at byte : ℕ) → at < length s → byte ≡ get_or s at 0 → byte < 128 → Number byte (at + 1) ≡ number_at s at
+pub at_one : (s : List ℕ) (at byte : ℕ) → at < length s → byte ≡ get_or s at 0 → byte < 128 → Some (byte, at + 1) ≡ number_at s at
 unfolding number_at number small after
 at_one s at byte h e last = rw (front-next s at byte h e, front-last byte (drop (at + 1) s) last, le-leb byte largest (omega arith))
 
 -- a number of two bytes
 pub at-two : (s : List ℕ) (at low high : ℕ) → at + 1 < length s → low ≡ get_or s at 0 → 128 ≤ low → low < 256 → high ≡ get_or s (at + 1) 0 → 0 < high → high < 128
-    → Number (low - 128 + 128 * high) (at + 2) ≡ number_at s at
+    → Some (low - 128 + 128 * high, at + 2) ≡ number_at s at
 unfolding number_at number small after
 at-two s at low high h e more below f positive last =
     rw (
@@ -267,14 +267,20 @@ at-two s at low high h e more below f positive last =
       le-leb (low - 128 + 128 * high) largest (omega arith),
     )
 
+-- the parts of a pair that stands in an answer
+pub some-parts : {n next m after : ℕ} → ◌≡◌ {A = Option (ℕ × ℕ)} (Some (n, next)) (Some (m, after)) → (n ≡ m) × (next ≡ after)
+some-parts {n} {next} {m} {after} e =
+    let pair : ◌≡◌ {A = ℕ × ℕ} (n, next) (m, after) = cc in
+    (ap (λ (p : ℕ × ℕ). p.0) pair, ap (λ (p : ℕ × ℕ). p.1) pair)
+
 -- what is read takes at least one byte and lies within the bytes
-pub number-within : (s : List ℕ) (at n next : ℕ) → number_at s at ≡ Number n next → (at < next) × (next ≤ length s)
+pub number-within : (s : List ℕ) (at n next : ℕ) → number_at s at ≡ Some (n, next) → (at < next) × (next ≤ length s)
 unfolding number_at after
 number-within s at n next e = go (number (drop at s)) refl e
   where
-    go : (f : Found) → number (drop at s) ≡ f → after at f ≡ Number n next → (at < next) × (next ≤ length s)
+    go : (f : Found) → number (drop at s) ≡ f → after at f ≡ Some (n, next) → (at < next) × (next ≤ length s)
     go nothing q e = absurd (let z : ◌≡◌ {A = ℕ} 0 1 = cc in omega arith)
     go (found m size) q e =
         let read = write_read (drop at s) m size q in
-        let position : at + size ≡ next = cc in
+        let position : at + size ≡ next = (some-parts e).1 in
         omega (arith, form-length-bounds m, simp (length-append, length-drop) at (ap length read.2))

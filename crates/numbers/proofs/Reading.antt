@@ -1,4 +1,5 @@
 -- A number is read group by group, the lowest first: what the groups so far leave to be read, and what each next group makes of it.
+use Rattle.std.specs.Prelude.{Some, None}
 use Prim.Native.Nat.{ℕ, zero, suc, ◌+◌, ◌-◌, ◌*◌, ◌^◌, ◌≤◌, ◌<◌}
 use mathlib.Core.Path.{◌≡◌, refl, sym, ap, ap₂, ◌∙◌}
 use mathlib.Core.List.{List}
@@ -10,12 +11,11 @@ use lib.ListN.{length, drop, get_or, drop_of_length-le}
 use lib.Dec.{eqb}
 use Rattle.numbers.specs.Number.{largest, Found, found, nothing, before, front, small, after, number, number_at}
 use Rattle.numbers.proofs.Number.{front-last, front-step, before-found, front-next}
-use Rattle.numbers.specs.declared.Read.TheVariants.{Number, Nothing}
 
 -- ---- at the first byte
 
 -- there is none
-pub at-end : (s : List ℕ) (at : ℕ) → length s ≤ at → Nothing ≡ number_at s at
+pub at-end : (s : List ℕ) (at : ℕ) → length s ≤ at → None ≡ number_at s at
 unfolding number_at number small after front
 at-end s at h = rw (drop_of_length-le s h)
 
@@ -77,7 +77,7 @@ reading-first s at byte h e low high = record {
 }
 
 -- the bytes end, and the number goes on
-pub reading-end : {s : List ℕ} {at next low unit : ℕ} → Reading s at next low unit → length s ≤ next → Nothing ≡ number_at s at
+pub reading-end : {s : List ℕ} {at next low unit : ℕ} → Reading s at next low unit → length s ≤ next → None ≡ number_at s at
 unfolding number_at number onto small after front
 reading-end {s} r h = rw (r.left, drop_of_length-le s h)
 
@@ -88,25 +88,29 @@ pub record Turn (s : List ℕ) (at next low unit byte : ℕ) : Type 0 where
   pub is : byte ≡ get_or s next 0
   pub below : byte < 256
 
+pub turned : {s : List ℕ} {at next low unit : ℕ} → Reading s at next low unit → next < length s → get_or s next 0 < 256
+    → Turn s at next low unit (get_or s next 0)
+turned r more below = record { reading = r; more = more; is = refl; below = below }
+
 module _ {s : List ℕ} {at next low unit byte : ℕ} (t : Turn s at next low unit byte) where
   -- a last group
   last : byte < 128 → front (drop at s) ≡ onto (next - at) low unit (found byte 1)
   last h = t.reading.left ∙ ap (onto (next - at) low unit) (front-next s next byte t.more t.is ∙ front-last byte (drop (next + 1) s) h)
 
-  pub last-zero : byte ≡ 0 → Nothing ≡ number_at s at
+  pub last-zero : byte ≡ 0 → None ≡ number_at s at
   unfolding number_at number onto small after
   last-zero none = rw (last (omega arith), none)
 
-  pub last-large : byte < 128 → 0 < byte → largest < low + byte * unit → Nothing ≡ number_at s at
+  pub last-large : byte < 128 → 0 < byte → largest < low + byte * unit → None ≡ number_at s at
   unfolding number_at number small after
   last-large h positive large =
       rw (last h, onto-found (next - at) low unit byte 1 positive, lt-leb (low + unit * byte) largest (omega arith))
 
-  pub last-number : byte < 128 → 0 < byte → low + byte * unit ≤ largest → Number (low + byte * unit) (next + 1) ≡ number_at s at
+  pub last-number : byte < 128 → 0 < byte → low + byte * unit ≤ largest → Some (low + byte * unit, next + 1) ≡ number_at s at
   unfolding number_at number small after
   last-number h positive fits =
       rw (last h, onto-found (next - at) low unit byte 1 positive, le-leb (low + unit * byte) largest (omega arith))
-      (ap₂ Number (omega arith) (omega arith))
+      (ap₂ (λ (n next : ℕ). Some (n, next)) (omega arith) (omega arith))
 
   -- another group
   more : 128 ≤ byte → front (drop at s) ≡ onto (next + 1 - at) (low + (byte - 128) * unit) (unit * 128) (front (drop (next + 1) s))
@@ -116,7 +120,7 @@ module _ {s : List ℕ} {at next low unit byte : ℕ} (t : Turn s at next low un
       ∙ ap (onto (next - at) low unit) (front-next s next byte t.more t.is ∙ front-step byte (drop (next + 1) s) h t.below)
       ∙ rw count (onto-more (next - at) low unit (byte - 128) (front (drop (next + 1) s)))
 
-  pub more-large : 128 ≤ byte → 128 ^ 4 ≤ unit → Nothing ≡ number_at s at
+  pub more-large : 128 ≤ byte → 128 ^ 4 ≤ unit → None ≡ number_at s at
   unfolding number_at number after
   more-large h long =
       rw (more h, onto-large (next + 1 - at) (low + (byte - 128) * unit) (unit * 128) (front (drop (next + 1) s)) (omega arith))

@@ -1,4 +1,5 @@
 -- A number is written group by group, the lowest first: what is left to be stored, and what each store makes of it.
+use Rattle.std.specs.Prelude.{Some, None}
 use Prim.Native.Nat.{ℕ, ◌+◌, ◌/◌, ◌%◌, ◌^◌, ◌≤◌, ◌<◌}
 use mathlib.Core.Path.{◌≡◌, refl, sym, ap, ◌∙◌}
 use mathlib.Core.List.{List}
@@ -9,10 +10,9 @@ use lib.ListN.{length, set, length-set}
 use lib.Seq.{sets, sets-eq}
 use Rattle.numbers.specs.Number.{form, room, written_at, write_at}
 use Rattle.numbers.proofs.Number.{form-last, form-step, form-length-bounds}
-use Rattle.numbers.specs.declared.Written.TheVariants.{Next, Full}
 
 -- there is no room, and nothing is stored
-pub no_room : (out : List ℕ) (at number : ℕ) → length out < at + length (form number) → (Full ≡ written_at out at number) × (out ≡ write_at out at number)
+pub no_room : (out : List ℕ) (at number : ℕ) → length out < at + length (form number) → (None ≡ written_at out at number) × (out ≡ write_at out at number)
 unfolding written_at write_at room
 no_room out at number h = rw (lt-leb _ _ h) (refl, refl)
 
@@ -42,9 +42,9 @@ module _ {out₀ : List ℕ} {at number : ℕ} {out : List ℕ} {next rest : ℕ
         left = rw add-one (sym (ap (sets out next) step) ∙ w.left);
       }
 
-  pub writing-last : rest < 128 → (Next (next + 1) ≡ written_at out₀ at number) × (set out next rest ≡ write_at out₀ at number)
+  pub writing-last : rest < 128 → (Some (next + 1) ≡ written_at out₀ at number) × (set out next rest ≡ write_at out₀ at number)
   unfolding written_at write_at room
   writing-last h =
       let one = form-last rest h in
       rw (le-leb _ _ w.fits)
-      (ap Next (omega (arith, ap length one)), sym (ap (sets out next) one) ∙ w.left ∙ sets-eq (form number) out₀ at w.fits)
+      (ap Some (omega (arith, ap length one)), sym (ap (sets out next) one) ∙ w.left ∙ sets-eq (form number) out₀ at w.fits)

@@ -1,9 +1,5 @@
 -- Stored numbers: their bytes, and what stands at a position of a byte list (01, "Bytes").
-use Rattle.std.specs.Prelude.{ℕ, zero, suc, ◌+◌, ◌-◌, ◌*◌, ◌/◌, ◌%◌, List, [], ◌∷◌, ◌++◌, Bool, cond, length, take, drop, ltb, leb, eqb}
-use Rattle.numbers.specs.declared.Read.{Read}
-use Rattle.numbers.specs.declared.Read.TheVariants.{Number, Nothing}
-use Rattle.numbers.specs.declared.Written.{Written}
-use Rattle.numbers.specs.declared.Written.TheVariants.{Next, Full}
+use Rattle.std.specs.Prelude.{ℕ, zero, suc, ◌+◌, ◌-◌, ◌*◌, ◌/◌, ◌%◌, List, [], ◌∷◌, ◌++◌, Bool, cond, length, take, drop, ltb, leb, eqb, Option, Some, None}
 
 -- "at most 4,294,967,295"
 abbrev pub largest : ℕ
@@ -56,12 +52,12 @@ number bytes = small (front bytes)
 -- ---- at a position, as the code answers
 
 -- what was found, with the position after it
-unfoldable pub after : ℕ → Found → Read
-after at nothing = Nothing
-after at (found n size) = Number n (at + size)
+unfoldable pub after : ℕ → Found → Option (ℕ × ℕ)
+after at nothing = None
+after at (found n size) = Some (n, at + size)
 
 -- what a reader finds at a position
-unfoldable pub number_at : List ℕ → ℕ → Read
+unfoldable pub number_at : List ℕ → ℕ → Option (ℕ × ℕ)
 number_at bytes at = after at (number (drop at bytes))
 
 -- is there room for the form of n at a position?
@@ -69,8 +65,8 @@ unfoldable pub room : List ℕ → ℕ → ℕ → Bool
 room out at n = leb (at + length (form n)) (length out)
 
 -- the position after the form of n, if there is room for it
-unfoldable pub written_at : List ℕ → ℕ → ℕ → Written
-written_at out at n = cond (room out at n) (Next (at + length (form n))) Full
+unfoldable pub written_at : List ℕ → ℕ → ℕ → Option ℕ
+written_at out at n = cond (room out at n) (Some (at + length (form n))) None
 
 -- the bytes with the form of n at a position, if there is room for it; the same bytes otherwise
 unfoldable pub write_at : List ℕ → ℕ → ℕ → List ℕ

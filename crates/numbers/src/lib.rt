@@ -6,20 +6,6 @@ ghost use Rattle.std.specs.Prelude.{◌≡◌, ◌≤◌, ◌<◌, length, get_o
 ghost use Rattle.numbers.specs.Number.{form, number_at, written_at, write_at};
 ghost use Rattle.numbers.specs.Signed.{stored, signed};
 
-// What stands at a position: a number and the position after it, or no stored number.
-#[derive(Clone, Copy)]
-pub enum Read {
-    Number(u32, usize),
-    Nothing,
-}
-
-// Whether a number was written: the position after it, or no room, and nothing was written.
-#[derive(Clone, Copy)]
-pub enum Written {
-    Next(usize),
-    Full,
-}
-
 // No number has more bytes.
 pub const LONGEST_NUMBER: usize = 5;
 
@@ -42,84 +28,72 @@ pub fn number_length(number: u32) -> usize
 
 // The number at the position, and the position after it; nothing if the bytes there are not a
 // complete, shortest form of a number that is small enough.
-pub fn read_number(s: &[u8], at: usize) -> Read
+pub fn read_number(s: &[u8], at: usize) -> Option<(u32, usize)>
     ensures { result ≡ number_at s.now at }
 {
     if s.len() <= at {
-        return Read::Nothing;
+        return None;
     }
-    let first = in_64_bits(s[at]);
+    let first = s[at];
     if first < 128 {
-        let number = first as u32;
-        let next = at + 1;
-        return Read::Number(number, next);
+        return Some((first as u32, at + 1));
     }
-    read_groups(s, at, first)
+    read_groups(s, at, first as u64)
 }
 
 // The number whose first group, of several, is at the position.
-fn read_groups(s: &[u8], at: usize, first: u64) -> Read
+fn read_groups(s: &[u8], at: usize, first: u64) -> Option<(u32, usize)>
     requires at_in_bounds { at < length s.now }
     requires first_value { first ≡ get_or s.now at 0 }
     requires le_first { 128 ≤ first }
     ensures { result ≡ number_at s.now at }
 {
-    let mut next = at + 1;
     let mut low = first - 128;
     let mut unit: u64 = 128;
-    while next < s.len() {
-        let group = in_64_bits(s[next]);
-        next += 1;
+    for next in at + 1..s.len() {
+        let group = s[next] as u64;
         if group < 128 {
             if group == 0 {
-                return Read::Nothing;
+                return None;
             }
             let value = low + group * unit;
             if LARGEST < value {
-                return Read::Nothing;
+                return None;
             }
-            let number = value as u32;
-            return Read::Number(number, next);
+            return Some((value as u32, next + 1));
         }
         if FIFTH_UNIT <= unit {
-            return Read::Nothing;
+            return None;
         }
         low += (group - 128) * unit;
         unit *= 128;
     }
-    Read::Nothing
-}
-
-// The byte as a number that has room for all groups.
-fn in_64_bits(byte: u8) -> u64
-    ensures { (result ≡ byte) × (result < 256) }
-{
-    byte as u64
+    None
 }
 
 // Writes the number at the position and answers the position after it; if there is no room for
 // all of its bytes, writes nothing and answers so.
-pub fn write_number(out: &mut [u8], at: usize, number: u32) -> Written
+pub fn write_number(out: &mut [u8], at: usize, number: u32) -> Option<usize>
     ensures value { result ≡ written_at out.old at number }
     ensures out_after { out.new ≡ write_at out.old at number }
 {
     let size = number_length(number);
     if out.len() < at {
-        return Written::Full;
+        return None;
     }
     if out.len() - at < size {
-        return Written::Full;
+        return None;
     }
     let mut next = at;
     let mut rest = number;
+    // a while: what is left of the number tells how many turns there are
     while 128 <= rest {
         out[next] = (128 + rest % 128) as u8;
         next += 1;
         rest /= 128;
     }
     out[next] = rest as u8;
-    let after = next + 1;
-    Written::Next(after)
+    Some(next + 1)
 }
 
 // The number that a signed n is stored as: 2n when n is 0 or more, else -2n - 1.

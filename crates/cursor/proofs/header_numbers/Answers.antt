@@ -1,7 +1,6 @@
 -- `cursor::header_numbers`: each number stands behind the one before it.
-use Rattle.std.proofs.Common.{◌≡◌, ℕ, List, ap, ◌∙◌}
+use Rattle.std.proofs.Common.{◌≡◌, Option, ℕ, List, ap, ◌∙◌}
 use Rattle.numbers.specs.Number.{number_at}
-use Rattle.numbers.specs.declared.Read.{Read}
 use Rattle.cursor.specs.Cursors.{next, behind, header_numbers}
 use Rattle.cursor.specs.declared.Cursor.{Cursor}
 use Rattle.cursor.specs.declared.HeaderNumbers.{HeaderNumbers}
@@ -18,10 +17,10 @@ moved {bytes} {at} {c} d s is = record {
   here = ap (λ x. x.at) is ∙ ap (λ x. next x c.at) s.same ∙ ap (next bytes) s.here;
 }
 
-found : {bytes : List ℕ} {at : ℕ} {c : Cursor} (r : Read) → Stands bytes at c → r ≡ number_at c.description.now c.at → r ≡ number_at bytes at
+found : {bytes : List ℕ} {at : ℕ} {c : Cursor} (r : Option (ℕ × ℕ)) → Stands bytes at c → r ≡ number_at c.description.now c.at → r ≡ number_at bytes at
 found {bytes} {at} {c} r s is = is ∙ ap (λ x. number_at x c.at) s.same ∙ ap (number_at bytes) s.here
 
-joined : (e p v l e' p' v' l' : Read) → e ≡ e' → p ≡ p' → v ≡ v' → l ≡ l'
+joined : (e p v l e' p' v' l' : Option (ℕ × ℕ)) → e ≡ e' → p ≡ p' → v ≡ v' → l ≡ l'
     → ◌≡◌ {A = HeaderNumbers} record { edition = e; places = p; events = v; limits = l } record { edition = e'; places = p'; events = v'; limits = l' }
 joined e p v l e' p' v' l' a b c d = cc
 

@@ -8,8 +8,6 @@ pub use Rattle.theory.specs.Judging.{top}
 pub use Rattle.theory.specs.Answers.{ask, loose_set}
 pub use Rattle.theory.specs.Calls.{Call, AllAllowed}
 pub use Rattle.theory.specs.Demands.{Demand2, Least, JustOne, Possible, Words, Demand3, WithinLimits, Stays}
-pub use Rattle.numbers.specs.declared.Read.TheVariants.{Number}
-pub use Rattle.numbers.specs.declared.Written.TheVariants.{Next}
 pub use Rattle.numbers.specs.Number.{largest, form, number_at, room, written_at, write_at}
 pub use Rattle.numbers.specs.Signed.{stored, signed}
 pub use Rattle.codec.specs.declared.Wrote.{Wrote}

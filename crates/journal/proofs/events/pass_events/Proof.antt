@@ -28,7 +28,7 @@ stepped c = c.before
 abbrev numbered : tie.After-numbers-1 invariant-loop decreases-loop → tie.After-unplaced_numbers-numbers invariant-loop decreases-loop
 numbered c = c.before.before
 
-abbrev known : tie.After-step_event-arg-in-Number-1 invariant-loop decreases-loop → tie.In-Number invariant-loop decreases-loop
+abbrev known : tie.After-step_event-arg-in-Some-1 invariant-loop decreases-loop → tie.In-Number invariant-loop decreases-loop
 known c = c.before.before
 
 -- ---- what is known there
@@ -39,8 +39,8 @@ room c = omega (arith, c.loop-out-test.true, c.loop-out.invariant.fits)
 
 -- the number at the position
 event : (c : tie.In-Number invariant-loop decreases-loop)
-    → Tells c.args.seen.now c.loop-out.at (Number c.in-Number.event c.in-Number.after)
-event c = subst (Tells c.args.seen.now c.loop-out.at) c.in-Number.is c.next_number-next.ensures
+    → Tells c.args.seen.now c.loop-out.at (Number c.in-Some.event c.in-Some.after)
+event c = subst (Tells c.args.seen.now c.loop-out.at) c.in-Some.is c.next_number-next.ensures
 
 loop-holds : tie.Need-loop-out-init invariant-loop decreases-loop
 loop-holds c =

@@ -3,5 +3,5 @@ use Rattle.std.proofs.Common.{sym, ◌∙◌}
 use Rattle.journal.proofs.Telling.{tells-number}
 use Rattle.journal.proofs.input.next_number.Goals as goal
 
-pub returns-in-Number : goal.returns-in-Number
-returns-in-Number c = tells-number _ _ _ _ (sym c.read_number-read.ensures ∙ c.in-Number.is)
+pub returns-in-Some : goal.returns-in-Some
+returns-in-Some c = tells-number _ _ _ _ (sym c.read_number-read.ensures ∙ c.in-Some.is)

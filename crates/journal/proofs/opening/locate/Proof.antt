@@ -16,9 +16,9 @@ enum-known-next c = search rules
 cast-t6 : tie.Need-overflow_cast-result
 cast-t6 c = search rules
 
-returns : tie.Need-returns-in-Number
+returns : tie.Need-returns-in-Some
 returns c =
-    let tells = subst (Tells c.args.seen.now 0) c.in-Number.is c.next_number-next.ensures in
+    let tells = subst (Tells c.args.seen.now 0) c.in-Some.is c.next_number-next.ensures in
     (front-short _ _ _ tells, record { within = tells.1; read = tells.2 })
 
 put-refusal-requires : tie.Need-put_refusal-requires
