@@ -1,5 +1,6 @@
 -- The laws of readers and of what is written.
 pub mod Reader
+pub mod Replies
 pub mod Inverse
 pub mod Places
 pub mod Joined

@@ -1,3 +1,4 @@
+pub mod Refusals
 pub mod Reader
 pub mod Joined
 pub mod Output

@@ -3,9 +3,6 @@
 use Rattle.std.specs.Prelude.{ℕ, ◌&&◌, List, ◌++◌, length, drop, leb, Option, Some, None}
 use Rattle.theory.specs.Replies.{Reply, value, refusal, ◌>>=◌, question}
 use Rattle.theory.specs.Answers.{no_room}
-use Rattle.codec.specs.declared.Wrote.{Wrote}
-use Rattle.codec.specs.declared.Wrote.TheVariants.{Bytes, Refused}
-use Rattle.codec.specs.declared.WroteBoth.{WroteBoth}
 
 -- "Does the result fit the lent output? 13"
 abbrev pub fitting : ℕ → Reply (List ℕ) → Reply (List ℕ)
@@ -15,14 +12,9 @@ fitting room reply = do
   value b
 
 -- the number of bytes written, or the refusal
-abbrev pub wrote_of : Reply (List ℕ) → Wrote
-wrote_of (value b) = Bytes (length b)
-wrote_of (refusal n) = Refused n
-
--- the same the other way
-abbrev pub wrote_reply : Wrote → Reply ℕ
-wrote_reply (Bytes n) = value n
-wrote_reply (Refused n) = refusal n
+abbrev pub wrote_of : Reply (List ℕ) → Reply ℕ
+wrote_of (value b) = value (length b)
+wrote_of (refusal n) = refusal n
 
 -- what a number that is written tells: the position after it, or that it does not fit
 abbrev pub written_reply : Option ℕ → Reply ℕ
@@ -35,7 +27,7 @@ left_of out (value b) = b ++ drop (length b) out
 left_of out (refusal n) = out
 
 -- the answer of a call with so much room
-abbrev pub answer : ℕ → Reply (List ℕ) → Wrote
+abbrev pub answer : ℕ → Reply (List ℕ) → Reply ℕ
 answer room reply = wrote_of (fitting room reply)
 
 -- what it leaves in the output
@@ -57,14 +49,9 @@ both_fitting described room reply = do
   value pair
 
 -- the number of bytes written to each output, or the refusal
-abbrev pub wrote_both_of : Reply Pair → WroteBoth
-wrote_both_of (value pair) = WroteBoth.Bytes (length pair.description) (length pair.state)
-wrote_both_of (refusal n) = WroteBoth.Refused n
-
--- whether a call refused, and with which number
-abbrev pub wrote_both_reply : WroteBoth → Reply Unit
-wrote_both_reply (WroteBoth.Bytes n k) = value tt
-wrote_both_reply (WroteBoth.Refused n) = refusal n
+abbrev pub wrote_both_of : Reply Pair → Reply (ℕ × ℕ)
+wrote_both_of (value pair) = value (length pair.description, length pair.state)
+wrote_both_of (refusal n) = refusal n
 
 -- the bytes for each output
 abbrev pub description_part : Reply Pair → Reply (List ℕ)
@@ -78,7 +65,7 @@ state_part reply = do
   value pair.state
 
 -- the answer of a call with so much room for each
-abbrev pub both_answer : ℕ → ℕ → Reply Pair → WroteBoth
+abbrev pub both_answer : ℕ → ℕ → Reply Pair → Reply (ℕ × ℕ)
 both_answer described room reply = wrote_both_of (both_fitting described room reply)
 
 -- what it leaves in each

@@ -1,8 +1,6 @@
 -- Readers: what they find at the front of the bytes left, or the number of the refusal.
 use Rattle.std.specs.Prelude.{ℕ, zero, suc, ◌-◌, List, [], ◌∷◌, Bool, true, false, length, drop, Option, Some, None}
 use Rattle.theory.specs.Replies.{Reply, value, refusal}
-use Rattle.codec.specs.declared.Passed.{Passed}
-use Rattle.codec.specs.declared.Passed.TheVariants.{To, Refused}
 use Rattle.numbers.specs.Number.{Found, found, nothing}
 use Rattle.numbers.specs.Number as Stored
 
@@ -70,15 +68,15 @@ map_result f (no n) = no n
 
 -- ---- at a position, as the code answers
 
--- how far a reader came in the bytes
-abbrev pub passed : {A : Type 0} → List ℕ → Result A → Passed
-passed bytes (ok a left) = To (length bytes - length left)
-passed bytes (no n) = Refused n
+-- how far a reader came in the bytes, or the refusal
+abbrev pub passed : {A : Type 0} → List ℕ → Result A → Reply ℕ
+passed bytes (ok a left) = value (length bytes - length left)
+passed bytes (no n) = refusal n
 
--- what it tells: the position, or the refusal
-abbrev pub passed_reply : Passed → Reply ℕ
-passed_reply (To at) = value at
-passed_reply (Refused n) = refusal n
+-- what it found, and how far it came
+abbrev pub found_at : {A : Type 0} → List ℕ → Result A → Reply (A × ℕ)
+found_at bytes (ok a left) = value (a, length bytes - length left)
+found_at bytes (no n) = refusal n
 
 -- what a number that is read tells: it and the position after it; "Is each stored number complete, shortest and small enough? 1"
 abbrev pub read_reply : Option (ℕ × ℕ) → Reply (ℕ × ℕ)
