@@ -1,7 +1,10 @@
 -- What the code's answers tell, as a caller meets them.
-use Rattle.std.proofs.Common.{◌≡◌, sym, ap, ◌∙◌}
+use Rattle.std.proofs.Common.{◌≡◌, ℕ, List, sym, ap, ◌∙◌}
 use Rattle.std.specs.Prelude.{Result, Ok, Err}
 use Rattle.theory.specs.Replies.{Reply, value, refusal}
+use Rattle.theory.proofs.Answers.{clash}
+use Rattle.codec.specs.Reader as Reader
+use Rattle.codec.specs.Reader.{ok, no, passed, found_at, map_result}
 use Rattle.codec.specs.declared.refusals.Refusal.{Refusal}
 use Rattle.codec.specs.Refusals.{number, reply}
 
@@ -17,3 +20,26 @@ pub value-parts : {A B : Type 0} {a c : A} {b d : B} → ◌≡◌ {A = Reply (A
 value-parts {A} {B} {a} {c} {b} {d} e =
     let pair : ◌≡◌ {A = A × B} (a, b) (c, d) = cc in
     (ap (λ (p : A × B). p.0) pair, ap (λ (p : A × B). p.1) pair)
+
+-- what a reader found, made of what it read, and how far it came
+module _ {A B : Type 0} (bytes : List ℕ) (f : A → B) where
+  pub found-passed : (result : Reader.Result A) {b : B} {next : ℕ} → found_at bytes (map_result f result) ≡ value (b, next)
+      → (passed bytes result ≡ value next) × ((a : A) (left : List ℕ) → result ≡ ok a left → f a ≡ b)
+  found-passed (ok a left) e =
+      let parts = value-parts e in
+      (ap value parts.1, λ c rest is. let same : a ≡ c = cc in ap f (sym same) ∙ parts.0)
+  found-passed (no n) e = clash (cc)
+
+  pub found-refused : (result : Reader.Result A) {n : ℕ} → found_at bytes (map_result f result) ≡ refusal n → passed bytes result ≡ refusal n
+  found-refused (ok a left) e = clash (cc)
+  found-refused (no m) {n} e = let same : m ≡ n = cc in ap refusal same
+
+module _ {A : Type 0} (bytes : List ℕ) where
+  pub found-there : (result : Reader.Result A) {a : A} {next : ℕ} → found_at bytes result ≡ value (a, next)
+      → (passed bytes result ≡ value next) × (left : List ℕ) × (result ≡ ok a left)
+  found-there (ok b left) e = let parts = value-parts e in (ap value parts.1, left, ap (λ (c : A). ok c left) parts.0)
+  found-there (no n) e = clash (cc)
+
+  pub found-not : (result : Reader.Result A) {n : ℕ} → found_at bytes result ≡ refusal n → result ≡ no n
+  found-not (ok a left) e = clash (cc)
+  found-not (no m) {n} e = let same : m ≡ n = cc in ap no same
