@@ -1,5 +1,5 @@
 -- `rounds::after_events`: an event more, and none left.
-use Rattle.std.proofs.Common.{◌≡◌, ◌+◌, drop, sym, ap, ◌∙◌, arith}
+use Rattle.std.proofs.Common.{◌+◌, drop, sym, ap, ◌∙◌, arith}
 use Rattle.net.specs.declared.Observer.{Observer}
 use Rattle.rounds.specs.Rounds.{rounds}
 use Rattle.rounds.proofs.Rounds.{rounds-more, rounds-none}
