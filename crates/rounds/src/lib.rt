@@ -35,10 +35,8 @@ fn after_events(net: Net, observer: Observer, events: &[u8]) -> Observer
     ensures { result ≡ rounds net observer events.now }
 {
     let mut current = observer;
-    let mut i = 0;
-    while i < events.len() {
-        current = after_event(net, current, events[i] as u32);
-        i += 1;
+    for event in events {
+        current = after_event(net, current, *event as u32);
     }
     current
 }
