@@ -11,8 +11,6 @@ use Rattle.net.specs.declared.Observer.{Observer}
 use Rattle.net.specs.declared.Observed.{Observed}
 use Rattle.net.specs.declared.Verdict.{Verdict}
 use Rattle.net.specs.declared.Verdict.TheVariants.{Allow, Hold}
-use Rattle.net.specs.declared.Answer.{Answer}
-use Rattle.net.specs.declared.Answer.TheVariants.{Given, Refused}
 use Rattle.net.specs.Answers.{answer_of}
 use Rattle.net.specs.Observers.{observed_of, fresh_observer}
 use Rattle.description.specs.Read.{description_read}
@@ -20,16 +18,16 @@ use Rattle.description.proofs.Answered.{read-checked}
 use Rattle.values.specs.Values.{recorded_observer, observer_judged, observer_output}
 use Rattle.rounds.specs.Rounds.{round, rounds, rounds_reply}
 
-module _ (net : Net) (o : Observer) (event : ℕ) {a : Answer} (judged : a ≡ answer_of (observer_judged net o event)) where
-  pub round-allowed : {v : Verdict} → a ≡ Given v → v ≡ Allow → {r : Observed} → r ≡ observed_of (recorded_observer net o event) → r.observer ≡ round net o event
+module _ (net : Net) (o : Observer) (event : ℕ) {a : Reply Verdict} (judged : a ≡ answer_of (observer_judged net o event)) where
+  pub round-allowed : {v : Verdict} → a ≡ value v → v ≡ Allow → {r : Observed} → r ≡ observed_of (recorded_observer net o event) → r.observer ≡ round net o event
   unfolding round
   round-allowed given allowed recorded = rw (← judged, given, allowed, recorded)
 
-  pub round-held : {v : Verdict} {limit : ℕ} → a ≡ Given v → v ≡ Hold limit → o ≡ round net o event
+  pub round-held : {v : Verdict} {limit : ℕ} → a ≡ value v → v ≡ Hold limit → o ≡ round net o event
   unfolding round
   round-held given held = rw (← judged, given, held)
 
-  pub round-refused : {n : ℕ} → a ≡ Refused n → o ≡ round net o event
+  pub round-refused : {n : ℕ} → a ≡ refusal n → o ≡ round net o event
   unfolding round
   round-refused refused = rw (← judged, refused)
 
