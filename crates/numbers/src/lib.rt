@@ -64,22 +64,16 @@ fn read_groups(s: &[u8], at: usize, first: u64) -> Read
     requires le_first { 128 ≤ first }
     ensures { result ≡ number_at s.now at }
 {
-    let mut next = at + 1;
     let mut low = first - 128;
     let mut unit: u64 = 128;
-    while next < s.len() {
+    for next in at + 1..s.len() {
         let group = in_64_bits(s[next]);
-        next += 1;
         if group < 128 {
-            if group == 0 {
-                return Read::Nothing;
-            }
             let value = low + group * unit;
-            if LARGEST < value {
+            if group == 0 || LARGEST < value {
                 return Read::Nothing;
             }
-            let number = value as u32;
-            return Read::Number(number, next);
+            return Read::Number(value as u32, next + 1);
         }
         if FIFTH_UNIT <= unit {
             return Read::Nothing;
@@ -112,6 +106,7 @@ pub fn write_number(out: &mut [u8], at: usize, number: u32) -> Written
     }
     let mut next = at;
     let mut rest = number;
+    // a while: a turn writes one group, as many as the number has before its last
     while 128 <= rest {
         out[next] = (128 + rest % 128) as u8;
         next += 1;
