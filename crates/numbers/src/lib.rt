@@ -106,7 +106,7 @@ pub fn write_number(out: &mut [u8], at: usize, number: u32) -> Written
     }
     let mut next = at;
     let mut rest = number;
-    // a while: a turn writes one group, as many as the number has before its last
+    // a while: a turn writes one group, and what is left of the number says which is the last
     while 128 <= rest {
         out[next] = (128 + rest % 128) as u8;
         next += 1;
