@@ -62,11 +62,9 @@ pub fn changed(rt: &impl Print, d: &[u8], at: usize) -> io::Result<()> {
 fn each_value(rt: &impl Print, space: &mut [u8; 64], size: usize, at: usize) -> io::Result<()>
     requires { at < 64 }
 {
-    let mut value = 0usize;
-    while value < 256 {
-        space[at] = value as u8;
+    for value in 0..=u8::MAX {
+        space[at] = value;
         decimal(rt, refusal_of(first(space, size)) as usize)?;
-        value += 1;
     }
     Ok(())
 }

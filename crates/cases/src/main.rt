@@ -50,6 +50,7 @@ fn read_full(stdin: &mut Stdin, space: &mut [u8]) -> io::Result<usize>
     ensures { IfOk result (λ count. count ≤ length space.new) }
 {
     let mut held = 0;
+    // a while: a turn reads as many bytes as come
     while held < space.len() {
         let came = stdin.read(&mut space[held..])?;
         if came == 0 {
@@ -62,6 +63,7 @@ fn read_full(stdin: &mut Stdin, space: &mut [u8]) -> io::Result<usize>
 
 fn cases(rt: &impl Print, input: &[u8]) -> io::Result<()> {
     let mut at = 0;
+    // a while: the position moves by one case a turn, however long that is
     while at < input.len() {
         let next = one_case(rt, input, at)?;
         if next <= at {
