@@ -239,7 +239,7 @@ module _ (d : List ℕ) (net : Net) (says : described d ≡ value net) (b : List
       }
 
   state-miscounted : (list : List ℕ) (n described room : ℕ) → loose_set net list ≡ true
-      → (both_answer described room (count_reply d b list n) ≡ WroteBoth.Refused 15) ↔ ((bound < n) ⊎ (Countable net (Within net s) list n → ⊥))
+      → (both_answer described room (count_reply d b list n) ≡ refusal 15) ↔ ((bound < n) ⊎ (Countable net (Within net s) list n → ⊥))
   state-miscounted list n described room loose =
       let counts = (counted_is d net says list n).1 b s bytes in
       Iff.trans (rooms-iff (count_reply d b list n) described room 15 (λ e. omega arith))

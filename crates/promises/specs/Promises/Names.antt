@@ -10,19 +10,13 @@ pub use Rattle.theory.specs.Calls.{Call, AllAllowed}
 pub use Rattle.theory.specs.Demands.{Demand2, Least, JustOne, Possible, Words, Demand3, WithinLimits, Stays}
 pub use Rattle.numbers.specs.Number.{largest, form, number_at, room, written_at, write_at}
 pub use Rattle.numbers.specs.Signed.{stored, signed}
-pub use Rattle.codec.specs.declared.Wrote.{Wrote}
-pub use Rattle.codec.specs.declared.Wrote.TheVariants.{Bytes}
 pub use Rattle.codec.specs.Reader.{read, ok, passed, passed_reply, read_reply}
 pub use Rattle.codec.specs.Places.{place_at, place_reply}
 pub use Rattle.codec.specs.Output.{answer, left, wrote_reply, written_reply, Pair, both_answer, description_left, state_left, wrote_both_reply}
 pub use Rattle.net.specs.declared.Net.{Net}
 pub use Rattle.net.specs.declared.Edition.{Edition}
 pub use Rattle.net.specs.declared.Observer.{Observer}
-pub use Rattle.net.specs.declared.Checked.{Checked}
-pub use Rattle.net.specs.declared.Checked.TheVariants.{Good}
 pub use Rattle.net.specs.declared.Verdict.TheVariants.{Allow, Hold}
-pub use Rattle.net.specs.declared.Answer.{Answer}
-pub use Rattle.net.specs.declared.Answer.TheVariants.{Given}
 pub use Rattle.net.specs.Bounds.{most_places, most_groups}
 pub use Rattle.net.specs.View.{net_of}
 pub use Rattle.net.specs.Check.{net_check}
