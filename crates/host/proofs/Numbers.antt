@@ -2,8 +2,11 @@
 use Prim.Native.Nat.{ℕ, zero, suc}
 use mathlib.Core.Path.{◌≡◌, refl, ap}
 use mathlib.Core.Logic.{◌↔◌}
+use mathlib.Core.Bool.{Bool, true, false}
 use lib.IntN.{pos}
+use Rattle.theory.specs.Replies.{Reply, value, refusal}
 use Rattle.theory.proofs.Answers.{clash}
+use Rattle.net.specs.declared.Verdict.{Verdict}
 use Rattle.net.specs.declared.Verdict.TheVariants.{Allow, Hold}
 use Rattle.host.specs.Numbers.{refusal_number, wrote_number, wrote_both_number, answer_number, known_number}
 
