@@ -49,10 +49,10 @@ allowed-iff (refusal k) = ((λ e. clash (cc)), (λ e. clash (cc)))
 pub report-iff : (b : Bool) {P : Type 0} → (b ≡ true) ↔ P → (value b ≡ value true) ↔ P
 report-iff b told = ((λ e. told.0 (cc)), (λ p. ap value (told.1 p)))
 
-pub known-told : (r : Reply Bool) → (known_number (known_of r) ≡ pos 1) ↔ (r ≡ value true)
-known-told r = Iff.trans (known-yes (known_of r)) (go r)
+pub known-told : (r : Reply Bool) → (known_number (r) ≡ pos 1) ↔ (r ≡ value true)
+known-told r = Iff.trans (known-yes (r)) (go r)
   where
-    go : (r : Reply Bool) → (known_of r ≡ (value true)) ↔ (r ≡ value true)
+    go : (r : Reply Bool) → (r ≡ (value true)) ↔ (r ≡ value true)
     go (value true) = ((λ e. refl), (λ e. refl))
     go (value false) = ((λ e. clash (cc)), (λ e. clash (cc)))
     go (refusal n) = ((λ e. clash (cc)), (λ e. clash (cc)))
@@ -63,7 +63,7 @@ wrote-iff : (r : Reply (List ℕ)) (n : ℕ) → (wrote_of r ≡ refusal n) ↔ 
 wrote-iff (value b) n = ((λ e. clash (cc)), (λ e. clash (cc)))
 wrote-iff (refusal k) n = ((λ e. cc), (λ e. cc))
 
-observed-iff : (r : Reply Observer) (n : ℕ) → ((observed_of r).checked ≡ refusal n) ↔ (r ≡ refusal n)
+observed-iff : (r : Reply Observer) (n : ℕ) → (r ≡ refusal n) ↔ (r ≡ refusal n)
 observed-iff (value b) n = ((λ e. clash (cc)), (λ e. clash (cc)))
 observed-iff (refusal k) n = ((λ e. cc), (λ e. cc))
 
@@ -105,7 +105,7 @@ bytes-told kept r j =
       allowed = allowed-iff j;
     }
 
-pub values-told : (r : Reply Observer) (j : Reply Verdict) → Retold (replies Observer) on_values_told r j (observed_of r).checked (answer_of j)
+pub values-told : (r : Reply Observer) (j : Reply Verdict) → Retold (replies Observer) on_values_told r j r (answer_of j)
 values-told r j =
     record {
       rejected = λ n l. observed-iff r (suc n);

@@ -83,7 +83,7 @@ module _ (net : Net) (o : Observer) (met : both_check net o ≡ value tt) where
 
   state-demand-3 : (e : ℕ) → e < net.events
       → Demand3 on_values_told (net_of net) (Within (net_of net) (state_of o)) (next (net_of net) (state_of o) e).estimate e
-      (observed_of (recorded_observer net o (suc e))).checked (answer_of (observer_judged net o (suc e)))
+      (recorded_observer net o (suc e)) (answer_of (observer_judged net o (suc e)))
   state-demand-3 e l =
       retold (values-told (recorded_observer net o (suc e)) (observer_judged net o (suc e)))
       (retold
@@ -149,7 +149,7 @@ in-edition edition was net s = refl
 -- ---- after a list
 
 module _ (net : Net) (checked : net_check net ≡ value tt) where
-  fresh-is : (observed_of (fresh_observer net)).observer ≡ observer_of First net (fresh (net_of net))
+  fresh-is : observer_of_reply (fresh_observer net) ≡ observer_of First net (fresh (net_of net))
   unfolding fresh_observer
   fresh-is = rw checked
 
