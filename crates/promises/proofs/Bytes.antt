@@ -28,7 +28,6 @@ use Rattle.theory.proofs.Lists as Lists
 use Rattle.theory.proofs.Fitting.{Good, Fitting}
 use Rattle.codec.specs.Reader.{Result, ok, read}
 use Rattle.codec.specs.Output.{fitting, answer, Pair, both_fitting, both_answer}
-use Rattle.codec.specs.declared.WroteBoth.TheVariants as WroteBoth
 use Rattle.net.specs.declared.Edition.{Edition}
 use Rattle.net.specs.declared.Edition.TheVariants.{First}
 use Rattle.net.specs.Answers.{answer_of}

@@ -12,7 +12,7 @@ use Rattle.theory.specs.Sums.{every}
 use Rattle.theory.proofs.Sums.{every_true, true-every, and_left, and_right, and-true}
 use Rattle.theory.specs.Nets.{Net}
 use Rattle.theory.specs.Recording.{State, Alike, bound, older_bound, unplaced}
-use Rattle.theory.specs.Replies.{Reply, value, ◌>>=◌, question}
+use Rattle.theory.specs.Replies.{Reply, value, ◌>>=◌, question, refusal}
 use Rattle.theory.specs.Answers.{numbers_up_to, too_large}
 use Rattle.theory.proofs.Answers.{clash, then-yes, question-yes, question-no}
 use Rattle.theory.proofs.Alike.{up_to-alike}

@@ -6,6 +6,7 @@ use mathlib.Core.List.{List, ◌++◌}
 use borrow.Author.Tests.{leb-true}
 use lib.Dec.{leb}
 use lib.ListN.{length, drop}
+use Rattle.codec.proofs.Replies.{value-parts}
 use Rattle.theory.specs.Replies.{Reply, value, refusal, ◌>>=◌, question}
 use Rattle.theory.specs.Answers.{no_room}
 use Rattle.theory.proofs.Answers.{clash}
@@ -13,7 +14,6 @@ use Rattle.theory.proofs.Least.{least-determined}
 use Rattle.theory.proofs.Exact.{judged-determined, impossible-determined, over_range-determined, groups-determined, estimates-determined, unplaced-determined}
 use Rattle.theory.proofs.Faithful.{possible-starts}
 use Rattle.theory.proofs.Sums.{and_left, and_right}
-use Rattle.codec.specs.declared.WroteBoth.TheVariants as WroteBoth
 use Rattle.codec.specs.Output.{fitting, wrote_of, left_of, answer, left, Pair, both_fitting, wrote_both_of, description_part, state_part, both_answer, description_left, state_left}
 use Rattle.promises.specs.Promises.{Demand1, Starts, Determined, Promises}
 use Rattle.promises.proofs.Bytes.{list-on-bytes, state-on-bytes}
@@ -76,8 +76,9 @@ demand-1 =
             × (length other.state ≡ k) × (k ≤ length out) × (left_of out (state_part (both t)) ≡ other.state ++ drop k out)
         enough false u v = clash (cc)
         enough true u v =
-            let size : length pair.description ≡ n = cc in
-            let other : length pair.state ≡ k = cc in (
+            let sizes = value-parts v in
+            let size : length pair.description ≡ n = sizes.0 in
+            let other : length pair.state ≡ k = sizes.1 in (
               pair,
               refl,
               size,

@@ -16,13 +16,11 @@ use Rattle.theory.proofs.Exact.{replies, Retold, retold}
 use Rattle.theory.specs.Nets.{Net, Marking}
 use Rattle.theory.specs.Demands.{Answered, Demand3}
 use Rattle.theory.specs.Demands as Demands
-use Rattle.codec.specs.declared.WroteBoth.TheVariants as WroteBoth
 use Rattle.codec.specs.Output.{wrote_of, answer, Pair, wrote_both_of, both_answer}
 use Rattle.net.specs.declared.Observer.{Observer}
-use Rattle.net.specs.declared.Checked.TheVariants as Checked
+use Rattle.net.specs.declared.Verdict as Memory
 use Rattle.net.specs.declared.Verdict.TheVariants.{Allow, Hold}
-use Rattle.net.specs.Answers.{answer_of, known_of}
-use Rattle.net.specs.Observers.{observed_of}
+use Rattle.net.specs.Answers.{answer_of}
 use Rattle.host.specs.Numbers.{wrote_number, answer_number, known_number}
 use Rattle.host.proofs.Numbers.{wrote-refused, judge-refused, judge-held, judge-allowed, known-yes}
 use Rattle.promises.specs.Promises.{on_bytes_told, on_values_told, host_told}
@@ -49,23 +47,14 @@ allowed-iff (refusal k) = ((λ e. clash (cc)), (λ e. clash (cc)))
 pub report-iff : (b : Bool) {P : Type 0} → (b ≡ true) ↔ P → (value b ≡ value true) ↔ P
 report-iff b told = ((λ e. told.0 (cc)), (λ p. ap value (told.1 p)))
 
-pub known-told : (r : Reply Bool) → (known_number (r) ≡ pos 1) ↔ (r ≡ value true)
-known-told r = Iff.trans (known-yes (r)) (go r)
-  where
-    go : (r : Reply Bool) → (r ≡ (value true)) ↔ (r ≡ value true)
-    go (value true) = ((λ e. refl), (λ e. refl))
-    go (value false) = ((λ e. clash (cc)), (λ e. clash (cc)))
-    go (refusal n) = ((λ e. clash (cc)), (λ e. clash (cc)))
+pub known-told : (r : Reply Bool) → (known_number r ≡ pos 1) ↔ (r ≡ value true)
+known-told r = known-yes r
 
 -- ---- recording
 
 wrote-iff : (r : Reply (List ℕ)) (n : ℕ) → (wrote_of r ≡ refusal n) ↔ (r ≡ refusal n)
 wrote-iff (value b) n = ((λ e. clash (cc)), (λ e. clash (cc)))
 wrote-iff (refusal k) n = ((λ e. cc), (λ e. cc))
-
-observed-iff : (r : Reply Observer) (n : ℕ) → (r ≡ refusal n) ↔ (r ≡ refusal n)
-observed-iff (value b) n = ((λ e. clash (cc)), (λ e. clash (cc)))
-observed-iff (refusal k) n = ((λ e. cc), (λ e. cc))
 
 -- ---- room
 
@@ -108,14 +97,14 @@ bytes-told kept r j =
 pub values-told : (r : Reply Observer) (j : Reply Verdict) → Retold (replies Observer) on_values_told r j r (answer_of j)
 values-told r j =
     record {
-      rejected = λ n l. observed-iff r (suc n);
+      rejected = λ n l. Iff.rfl;
       refused = λ n. refused-iff j (suc n);
       held = λ l. held-iff j (suc l);
       allowed = allowed-iff j;
     }
 
 -- and in the host's numbers: no refusal and no limit that an event from 1 to T is answered with has the number 0
-pub in-numbers : {net : Net} {M : Marking → Type 0} {after : ℕ → ℕ} {e : ℕ} {w : Reply ℕ} {a : Reply Verdict}
+pub in-numbers : {net : Net} {M : Marking → Type 0} {after : ℕ → ℕ} {e : ℕ} {w : Reply ℕ} {a : Reply Memory.Verdict}
     → Demand3 on_bytes_told net M after e w a → Demand3 host_told net M after e (wrote_number w) (answer_number a)
 in-numbers {w = w} {a = a} d = retold same d
   where

@@ -16,6 +16,7 @@ pub use Rattle.codec.specs.Output.{answer, left, written_reply, Pair, both_answe
 pub use Rattle.net.specs.declared.Net.{Net}
 pub use Rattle.net.specs.declared.Edition.{Edition}
 pub use Rattle.net.specs.declared.Observer.{Observer}
+pub use Rattle.net.specs.declared.Verdict.{Verdict}
 pub use Rattle.net.specs.declared.Verdict.TheVariants.{Allow, Hold}
 pub use Rattle.net.specs.Bounds.{most_places, most_groups}
 pub use Rattle.net.specs.View.{net_of}
