@@ -2,7 +2,6 @@
 ghost use Rattle.std.specs.Prelude.{◌≡◌};
 ghost use Rattle.codec.specs.Walk.{number_end, put_at};
 
-
 // Measures a number at the position or writes it there, and answers the position after it, or the same
 // one if no position is so large. It writes nothing if there is no room for all of the number's bytes.
 #[tactic(auto, using(crate::proofs::Walk::told), unfolding(crate::specs::Walk::put_at))]

@@ -6,7 +6,6 @@ ghost use Rattle.std.specs.Prelude.{◌≡◌};
 ghost use Rattle.numbers.specs.Number.{number_at};
 ghost use Rattle.cursor.specs.Cursors.{position_after, behind, header_numbers};
 
-
 // The description that is lent, and the position of the next number.
 #[derive(Clone, Copy)]
 pub struct Cursor<'a> {

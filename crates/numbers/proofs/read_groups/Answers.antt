@@ -1,6 +1,6 @@
 -- `numbers::read_groups` meets its contract: each way out of a turn is one law of `Reading`.
 use Rattle.std.proofs.Common.{arith}
-use Rattle.numbers.proofs.Reading.{turned, reading-fits, reading-first, reading-end, last-zero, last-large, last-number, more-large, more-reading}
+use Rattle.numbers.proofs.Reading.{turned, reading-first, reading-end, last-zero, last-large, last-number, more-large, more-reading}
 use Rattle.numbers.proofs.read_groups.Goals as goal
 
 pub loop-next-init : goal.loop-next-init

@@ -13,6 +13,9 @@ returns-then-out-at-2 c =
     let none = no_room c.args.out.now c.args.at c.args.number (omega arith) in
     record { value = none.0; out_after = none.1 }
 
+pub loop-rest-init : goal.loop-rest-init
+loop-rest-init c = writing-first c.args.out.now c.args.at c.args.number (omega arith) (omega arith)
+
 pub bounds-out-next : goal.bounds-out-next
 bounds-out-next c = writing-inside c.loop-rest.invariant
 
