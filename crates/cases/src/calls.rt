@@ -1,14 +1,15 @@
-// A call of the observer, answered on bytes and on values in memory.
-use crate::words::{judged, known, put, refused, written};
-use crate::{FRESH, JUDGE, KNOWN, RECORD};
-use net::{Checked, Net, Observed, Observer};
+// A call of the observer, answered on bytes, and the first four on values in memory too.
+use crate::call::Call;
+use crate::words::{judged, known, refused, written, written_both};
+use codec::Refusal;
+use net::{Net, Observer};
 use std::io;
 
 pub fn answers<'a>(
     rt: &impl Print,
     d: &'a [u8],
     s: &'a [u8],
-    call: u32,
+    call: Call,
     event: u32,
     room: usize,
 ) -> io::Result<()> {
@@ -17,86 +18,94 @@ pub fn answers<'a>(
     if 500 < room {
         return Ok(());
     }
-    let out = &mut space[0..room];
+    let out = &mut space[..room];
     on_bytes(rt, d, s, call, event, out)?;
-    put(rt, b" /")?;
-    on_values(rt, d, s, call, event, out)
+    match call {
+        Call::Older | Call::Dense | Call::Sparse => Ok(()),
+        _ => {
+            print!(rt; " /")?;
+            on_values(rt, d, s, call, event, out)
+        }
+    }
 }
 
 fn on_bytes<'a>(
     rt: &impl Print,
     d: &'a [u8],
     s: &'a [u8],
-    call: u32,
+    call: Call,
     event: u32,
     out: &mut [u8],
 ) -> io::Result<()> {
-    match call {
-        FRESH => {
-            let wrote = observer::fresh(d, out);
-            written(rt, wrote, out)
-        }
-        RECORD => {
-            let wrote = observer::record(d, s, event, out);
-            written(rt, wrote, out)
-        }
-        JUDGE => judged(rt, observer::judge(d, s, event)),
-        _ => known(rt, observer::known(d, s)),
-    }
+    let wrote = match call {
+        Call::Fresh => observer::fresh(d, out),
+        Call::Record => observer::record(d, s, event, out),
+        Call::Older => observer::older(d, s, out),
+        Call::Dense => observer::dense(d, s, out),
+        Call::Sparse => observer::sparse(d, s, out),
+        Call::Judge => return judged(rt, observer::judge(d, s, event)),
+        _ => return known(rt, observer::known(d, s)),
+    };
+    written(rt, wrote, out)
 }
 
 fn on_values<'a>(
     rt: &impl Print,
     d: &'a [u8],
     s: &'a [u8],
-    call: u32,
+    call: Call,
     event: u32,
     out: &mut [u8],
 ) -> io::Result<()> {
-    let read = description::read_description(d);
-    let checked = read.checked;
-    match checked {
-        Checked::Good => on_net(rt, read.net, s, call, event, out),
-        Checked::Refused(refusal) => refused(rt, refusal),
-    }
-}
-
-// What a call answers of the observer that it leaves, or its refusal.
-fn on_net(
-    rt: &impl Print,
-    net: Net,
-    s: &[u8],
-    call: u32,
-    event: u32,
-    out: &mut [u8],
-) -> io::Result<()> {
-    let left = left_by(net, s, call, event);
-    let checked = left.checked;
-    if let Checked::Refused(refusal) = checked {
-        return refused(rt, refusal);
-    }
+    let net = match description::read_description(d) {
+        Ok(net) => net,
+        Err(refusal) => return refused(rt, refusal),
+    };
+    // what a call answers of the observer that it leaves, or its refusal
+    let observer = match left_by(net, s, call, event) {
+        Ok(observer) => observer,
+        Err(refusal) => return refused(rt, refusal),
+    };
     match call {
-        JUDGE => judged(rt, values::judge_event(net, left.observer, event)),
-        KNOWN => known(rt, values::is_known(net, left.observer)),
+        Call::Judge => judged(rt, values::judge_event(net, observer, event)),
+        Call::Known => known(rt, values::is_known(net, observer)),
         _ => {
-            let wrote = values::write_observer(net, left.observer, out);
+            let wrote = values::write_observer(net, observer, out);
             written(rt, wrote, out)
         }
     }
 }
 
 // The observer that a call leaves: a fresh one, the saved one, or that with the event recorded.
-fn left_by(net: Net, s: &[u8], call: u32, event: u32) -> Observed {
-    if call == FRESH {
+fn left_by(net: Net, s: &[u8], call: Call, event: u32) -> Result<Observer, Refusal> {
+    if call == Call::Fresh {
         return Observer::fresh(net);
     }
-    let saved = values::read_observer(net, s);
-    let checked = saved.checked;
-    if let Checked::Refused(_) = checked {
-        return saved;
+    let saved = values::read_observer(net, s)?;
+    if call == Call::Record {
+        return values::record_event(net, saved, event);
     }
-    if call == RECORD {
-        return values::record_event(net, saved.observer, event);
+    Ok(saved)
+}
+
+// A head count, answered on bytes.
+pub fn counts<'a>(
+    rt: &impl Print,
+    d: &'a [u8],
+    s: &'a [u8],
+    places: &'a [u8],
+    tokens: u32,
+    described_room: usize,
+    room: usize,
+) -> io::Result<()> {
+    // more than the description that a case writes, and more than its state
+    let mut described_space = [0u8; 500];
+    let mut space = [0u8; 500];
+    if 500 < described_room || 500 < room {
+        return Ok(());
     }
-    saved
+    let described = &mut described_space[..described_room];
+    let out = &mut space[..room];
+    let wrote = observer::count(d, s, places, tokens, described, out);
+    written_both(rt, wrote, described, out)
 }

@@ -3,41 +3,34 @@
 ghost use Rattle.std.specs.Prelude.{◌<◌};
 
 use crate::input::first;
-use crate::words::{decimal, numbered, put, refused};
-use codec::Wrote;
-use net::{Checked, Net};
+use crate::words::refused;
+use net::Net;
 use std::io;
 
 pub fn describe(rt: &impl Print, d: &[u8]) -> io::Result<()> {
-    let read = description::read_description(d);
-    let checked = read.checked;
-    match checked {
-        Checked::Good => describe_net(rt, read.net, d),
-        Checked::Refused(refusal) => refused(rt, refusal),
+    match description::read_description(d) {
+        Ok(net) => describe_net(rt, net, d),
+        Err(refusal) => refused(rt, refusal),
     }
 }
 
 fn describe_net(rt: &impl Print, net: Net, d: &[u8]) -> io::Result<()> {
-    put(rt, b" net")?;
-    size(rt, net.places)?;
-    size(rt, net.events)?;
-    size(rt, net.groups.number)?;
-    size(rt, net.limits)?;
+    let places = net.places;
+    let events = net.events;
+    let groups = net.groups.number;
+    let limits = net.limits;
+    print!(rt; " net {places} {events} {groups} {limits}")?;
     back(rt, net, d)
-}
-
-fn size(rt: &impl Print, number: usize) -> io::Result<()> {
-    numbered(rt, b" ", number)
 }
 
 // Says so if the net is written as the description.
 fn back(rt: &impl Print, net: Net, d: &[u8]) -> io::Result<()> {
     let mut out = [0u8; 65536];
-    let Wrote::Bytes(count) = writing::write_description(net, &mut out) else {
+    let Ok(count) = writing::write_description(net, &mut out) else {
         return Ok(());
     };
     if first(&out, count) == d {
-        numbered(rt, b", written back in ", count)?;
+        print!(rt; ", written back in {count}")?;
     }
     Ok(())
 }
@@ -47,13 +40,10 @@ fn back(rt: &impl Print, net: Net, d: &[u8]) -> io::Result<()> {
 pub fn changed(rt: &impl Print, d: &[u8], at: usize) -> io::Result<()> {
     // more than a description has of which a case changes a byte
     let mut space = [0u8; 64];
-    if 64 < d.len() {
+    if 64 < d.len() || d.len() <= at {
         return Ok(());
     }
-    if d.len() <= at {
-        return Ok(());
-    }
-    put(rt, b" ")?;
+    print!(rt; " ")?;
     let size = d.len();
     space[..size].copy_from_slice(d);
     each_value(rt, &mut space, size, at)
@@ -62,21 +52,18 @@ pub fn changed(rt: &impl Print, d: &[u8], at: usize) -> io::Result<()> {
 fn each_value(rt: &impl Print, space: &mut [u8; 64], size: usize, at: usize) -> io::Result<()>
     requires { at < 64 }
 {
-    let mut value = 0usize;
-    while value < 256 {
-        space[at] = value as u8;
-        decimal(rt, refusal_of(first(space, size)) as usize)?;
-        value += 1;
+    for value in 0..=u8::MAX {
+        space[at] = value;
+        let refusal = refusal_of(first(space, size));
+        print!(rt; "{refusal}")?;
     }
     Ok(())
 }
 
-// The refusal of a description, or 0.
+// The number of a description's refusal, or 0.
 fn refusal_of(d: &[u8]) -> u32 {
-    let read = description::read_description(d);
-    let checked = read.checked;
-    match checked {
-        Checked::Good => 0,
-        Checked::Refused(refusal) => refusal,
+    match description::read_description(d) {
+        Ok(_) => 0,
+        Err(refusal) => refusal.number(),
     }
 }

@@ -1,7 +1,6 @@
 // Numbers of the input, and parts of it that stand after their lengths.
 ghost use Rattle.std.specs.Prelude.{◌≤◌, length};
 
-
 // The first bytes, or all if there are fewer.
 pub fn first(bytes: &[u8], count: usize) -> &[u8] {
     if count <= bytes.len() {
@@ -23,8 +22,7 @@ pub fn end_of(input: &[u8], at: usize) -> usize {
 
 // The number at a position, or 0 if there is none.
 pub fn number_at(input: &[u8], at: usize) -> u32 {
-    let read = numbers::read_number(input, at);
-    match read {
+    match numbers::read_number(input, at) {
         Some((number, _)) => number,
         None => 0,
     }

@@ -4,39 +4,16 @@
 
 ghost use Rattle.std.specs.Prelude.{◌≤◌, length, IfOk};
 
+mod call;
 mod calls;
-mod counts;
 mod descriptions;
-mod editions;
 mod input;
-mod older;
 mod words;
 
+use call::Call;
 use input::{after, end_of, number_at, part};
 use std::io;
 use std::io::{Read, Stdin};
-use words::put;
-
-// What a case asks: a call of the observer, or what its description is read as.
-const FRESH: u32 = 1;
-
-const RECORD: u32 = 2;
-
-const JUDGE: u32 = 3;
-
-const KNOWN: u32 = 4;
-
-const DESCRIBE: u32 = 5;
-
-const CHANGED: u32 = 6;
-
-const COUNT: u32 = 7;
-
-const OLDER: u32 = 8;
-
-const DENSE: u32 = 9;
-
-const SPARSE: u32 = 10;
 
 fn main(rt: HostRuntime) -> io::Result<()> {
     // more than the list of cases has
@@ -50,6 +27,7 @@ fn read_full(stdin: &mut Stdin, space: &mut [u8]) -> io::Result<usize>
     ensures { IfOk result (λ count. count ≤ length space.new) }
 {
     let mut held = 0;
+    // a while: a turn reads as many bytes as come
     while held < space.len() {
         let came = stdin.read(&mut space[held..])?;
         if came == 0 {
@@ -62,6 +40,7 @@ fn read_full(stdin: &mut Stdin, space: &mut [u8]) -> io::Result<usize>
 
 fn cases(rt: &impl Print, input: &[u8]) -> io::Result<()> {
     let mut at = 0;
+    // a while: the position moves by one case a turn, however long that is
     while at < input.len() {
         let next = one_case(rt, input, at)?;
         if next <= at {
@@ -83,19 +62,19 @@ fn one_case(rt: &impl Print, input: &[u8], at: usize) -> io::Result<usize> {
     let at_event = after(input, at_call);
     let at_described = after(input, at_event);
     let at_room = after(input, at_described);
-    put(rt, part(input, at))?;
-    put(rt, b":")?;
+    rt.write_all(part(input, at))?;
+    print!(rt; ":")?;
     answer(
         rt,
         part(input, description),
         part(input, state),
         part(input, places),
-        number_at(input, at_call),
+        Call::from(number_at(input, at_call)),
         number_at(input, at_event),
         number_at(input, at_described) as usize,
         number_at(input, at_room) as usize,
     )?;
-    put(rt, b"\n")?;
+    println!(rt)?;
     Ok(after(input, at_room))
 }
 
@@ -105,18 +84,15 @@ fn answer<'a>(
     d: &'a [u8],
     s: &'a [u8],
     places: &'a [u8],
-    call: u32,
+    call: Call,
     event: u32,
     described_room: usize,
     room: usize,
 ) -> io::Result<()> {
     match call {
-        DESCRIBE => descriptions::describe(rt, d),
-        CHANGED => descriptions::changed(rt, d, event as usize),
-        COUNT => counts::answers(rt, d, s, places, event, described_room, room),
-        OLDER => older::answers(rt, d, s, room),
-        DENSE => editions::answers(rt, d, s, call, room),
-        SPARSE => editions::answers(rt, d, s, call, room),
+        Call::Describe => descriptions::describe(rt, d),
+        Call::Changed => descriptions::changed(rt, d, event as usize),
+        Call::Count => calls::counts(rt, d, s, places, event, described_room, room),
         _ => calls::answers(rt, d, s, call, event, room),
     }
 }

@@ -3,7 +3,7 @@
 
 ghost use Rattle.std.specs.Prelude.{◌≡◌, length};
 ghost use Rattle.codec.specs.Output.{answer, left, both_answer, description_left, state_left};
-ghost use Rattle.net.specs.Answers.{answer_of, known_of};
+ghost use Rattle.net.specs.Answers.{answer_of};
 ghost use Rattle.observer.specs.Bytes.{fresh_reply, record_reply, known_reply, judge_reply, count_reply, older_reply, dense_reply, sparse_reply};
 ghost use Rattle.host.specs.Numbers.{wrote_number, wrote_both_number, answer_number, known_number};
 
@@ -38,7 +38,7 @@ pub extern "C" fn judge<'a>(d: &'a [u8], s: &'a [u8], event: u32) -> i64
 // Does the observer know where all tokens are? 1 or 0.
 #[unsafe(no_mangle)]
 pub extern "C" fn known<'a>(d: &'a [u8], s: &'a [u8]) -> i64
-    ensures { result ≡ known_number (known_of (known_reply d.now s.now)) }
+    ensures { result ≡ known_number (known_reply d.now s.now) }
 {
     host::known(d, s)
 }

@@ -10,7 +10,6 @@ use Rattle.theory.specs.Recording.{State}
 use Rattle.codec.specs.Walk.{Walked}
 use Rattle.codec.proofs.Walk.{walked-length}
 use Rattle.net.specs.declared.Net.{Net}
-use Rattle.net.specs.declared.Answer.{Answer}
 use Rattle.net.specs.View.{net_of}
 use Rattle.steps.specs.Totals.{unplaced_numbers}
 use Rattle.journal.specs.declared.input.Next.TheVariants.{Number, IllFormed}
@@ -39,7 +38,7 @@ going-none seen from out within running = record { within = within; fits = omega
 module _ {net : Net} {seen : List ℕ} {from : ℕ} {estimates₀ remainders₀ out₀ estimates remainders out : List ℕ} {at used : ℕ}
     (going : Going net seen from estimates₀ remainders₀ out₀ estimates remainders out at used) where
   -- an event more
-  pub going_more : used + longest_line ≤ length out → {event next : ℕ} → Tells seen at (Number event next) → {after left : List ℕ} {answer : Answer}
+  pub going_more : used + longest_line ≤ length out → {event next : ℕ} → Tells seen at (Number event next) → {after left : List ℕ} {answer : Reply Verdict}
       → Steps net event estimates remainders after left answer → {numbers : List ℕ} → numbers ≡ unplaced_numbers net.groups.number net.groups.around left
       → {put : List ℕ} {end : ℕ}
       → Walked true out used (line_bytes event answer net.places (λ p. get_or after p 0) net.groups.number (λ i. get_or numbers i 0)) put end

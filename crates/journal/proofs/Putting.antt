@@ -13,8 +13,6 @@ use Rattle.codec.specs.Walk.{wrote, Room, Walked}
 use Rattle.codec.proofs.Joined.{listed-get_or}
 use Rattle.codec.proofs.Walk.{room-first, room_next, walked-length, walked_both}
 use Rattle.net.specs.declared.Verdict.TheVariants.{Allow, Hold}
-use Rattle.net.specs.declared.Answer.{Answer}
-use Rattle.net.specs.declared.Answer.TheVariants.{Given, Refused}
 use Rattle.journal.specs.Lines.{digits, decimal, space, answer_bytes, spaced, line_bytes, refused_bytes, longest_line}
 
 -- one byte
@@ -96,17 +94,17 @@ spaced-length zero f = omega arith
 spaced-length (suc n) f =
     omega (arith, length-append (spaced n f) (space ∷ decimal (f n)), spaced-length n f, decimal-length (f n))
 
-answer-length : (a : Answer) → length (answer_bytes a) ≤ 18
-answer-length (Given Allow) = omega (arith, decimal-length 0)
-answer-length (Given (Hold l)) = omega (arith, decimal-length l)
-answer-length (Refused n) = omega (arith, decimal-length n)
+answer-length : (a : Reply Verdict) → length (answer_bytes a) ≤ 18
+answer-length (value Allow) = omega (arith, decimal-length 0)
+answer-length (value (Hold l)) = omega (arith, decimal-length l)
+answer-length (refusal n) = omega (arith, decimal-length n)
 
 -- no line is longer than the longest
 pub refused-length : (n : ℕ) → length (refused_bytes n) ≤ longest_line
 unfolding refused_bytes
 refused-length n = simp length-append (omega (arith, decimal-length n))
 
-pub line-length : (event : ℕ) (answer : Answer) (places : ℕ) (estimate : ℕ → ℕ) (groups : ℕ) (unplaced : ℕ → ℕ) → places ≤ 64 → groups ≤ 32
+pub line-length : (event : ℕ) (answer : Reply Verdict) (places : ℕ) (estimate : ℕ → ℕ) (groups : ℕ) (unplaced : ℕ → ℕ) → places ≤ 64 → groups ≤ 32
     → length (line_bytes event answer places estimate groups unplaced) ≤ longest_line
 unfolding line_bytes
 line-length event answer places estimate groups unplaced few fewer =
@@ -115,7 +113,7 @@ line-length event answer places estimate groups unplaced few fewer =
 
 -- room for the longest is room for any
 module _ {out : List ℕ} {at : ℕ} (long : at + longest_line ≤ length out) (counted : length out < 2 ^ 64) where
-  pub line-room : (event : ℕ) (answer : Answer) (places : ℕ) (estimate : ℕ → ℕ) (groups : ℕ) (unplaced : ℕ → ℕ) → places ≤ 64 → groups ≤ 32
+  pub line-room : (event : ℕ) (answer : Reply Verdict) (places : ℕ) (estimate : ℕ → ℕ) (groups : ℕ) (unplaced : ℕ → ℕ) → places ≤ 64 → groups ≤ 32
       → Room true out at (line_bytes event answer places estimate groups unplaced)
   line-room event answer places estimate groups unplaced few fewer =
       let short = line-length event answer places estimate groups unplaced few fewer in
@@ -125,12 +123,12 @@ module _ {out : List ℕ} {at : ℕ} (long : at + longest_line ≤ length out) (
   refused-room n = record { counted = omega (arith, refused-length n); inside = λ on. omega (arith, refused-length n) }
 
 -- the same answer
-module _ {out : List ℕ} {at : ℕ} {a b : Answer} (e : a ≡ b) where
+module _ {out : List ℕ} {at : ℕ} {a b : Reply Verdict} (e : a ≡ b) where
   pub answer-room : Room true out at (space ∷ answer_bytes a) → Room true out at (space ∷ answer_bytes b)
-  answer-room r = subst (λ (a : Answer). Room true out at (space ∷ answer_bytes a)) e r
+  answer-room r = subst (λ (a : Reply Verdict). Room true out at (space ∷ answer_bytes a)) e r
 
   pub answer-walked : {after : List ℕ} {next : ℕ} → Walked true out at (space ∷ answer_bytes b) after next → Walked true out at (space ∷ answer_bytes a) after next
-  answer-walked {after} {next} w = subst⁻¹ (λ (a : Answer). Walked true out at (space ∷ answer_bytes a) after next) e w
+  answer-walked {after} {next} w = subst⁻¹ (λ (a : Reply Verdict). Walked true out at (space ∷ answer_bytes a) after next) e w
 
 -- ---- a text, byte by byte
 

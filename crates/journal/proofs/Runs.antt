@@ -13,14 +13,13 @@ use Rattle.numbers.proofs.Number.{form-length-bounds}
 use Rattle.codec.specs.Reader.{Result, ok, no, number}
 use Rattle.codec.proofs.Inverse.{number-back}
 use Rattle.codec.proofs.Joined.{joined-cong}
-use Rattle.net.specs.declared.Answer.{Answer}
 use Rattle.net.specs.Answers.{answer_of}
 use Rattle.journal.specs.Lines.{space, decimal, line_bytes, refused_bytes}
 use Rattle.journal.specs.Printed.{kept_state, state_after, line, on_event, lines_up_to, lines}
 
 -- ---- the numbers of a line
 
-pub line_same : (event : ℕ) {a b : Answer} (places groups : ℕ) {f g u v : ℕ → ℕ} → a ≡ b → ((p : ℕ) → p < places → f p ≡ g p)
+pub line_same : (event : ℕ) {a b : Reply Verdict} (places groups : ℕ) {f g u v : ℕ → ℕ} → a ≡ b → ((p : ℕ) → p < places → f p ≡ g p)
     → ((i : ℕ) → i < groups → u i ≡ v i) → line_bytes event a places f groups u ≡ line_bytes event b places g groups v
 unfolding line_bytes
 line_same event places groups same estimates numbers =

@@ -14,9 +14,6 @@ use Rattle.theory.proofs.Alike.{unplaced-alike}
 use Rattle.codec.proofs.Joined.{first-at}
 use Rattle.net.specs.declared.Net.{Net}
 use Rattle.net.specs.declared.Observed.{Observed}
-use Rattle.net.specs.declared.Answer.{Answer}
-use Rattle.net.specs.declared.Checked.{Checked}
-use Rattle.net.specs.declared.Checked.TheVariants.{Good, Refused}
 use Rattle.net.specs.Bounds.{most_places, most_groups}
 use Rattle.net.specs.View.{at64, event_row, net_of, rules_of}
 use Rattle.net.specs.Check.{counted, net_check}
@@ -93,12 +90,12 @@ module _ {net : Net} {estimates remainders : List ℕ} (run : Running net estima
   arrays = record { estimate = λ p l. refl; remainder = λ i l. let one : suc i - 1 ≡ i = omega arith in rw one }
 
   -- an event that is refused leaves all as it was
-  refused-steps : (event n : ℕ) → ask (net_of net) s event ≡ refusal n → Steps net event estimates remainders estimates remainders (Answer.Refused n)
+  refused-steps : (event n : ℕ) → ask (net_of net) s event ≡ refusal n → Steps net event estimates remainders estimates remainders (refusal n)
   unfolding recorded judged
   refused-steps event n e = record { judges = rw e; leaves = rw e (same-state net s); running = run }
 
   -- "Is the event number 1 to T?"
-  pub none-steps : (event : ℕ) → counted net.events event ≡ false → Steps net event estimates remainders estimates remainders (Answer.Refused 10)
+  pub none-steps : (event : ℕ) → counted net.events event ≡ false → Steps net event estimates remainders estimates remainders (refusal 10)
   unfolding ask
   none-steps event none = refused-steps event 10 (asks event none)
     where
@@ -114,7 +111,7 @@ module _ {net : Net} {estimates remainders : List ℕ} (run : Running net estima
         row : (table : List ℕ) (p : ℕ) → p < net.places → get_or (event_row table e) p 0 ≡ get_or table (at64 e p) 0
         row table p l = event-row-at table e p (omega (arith, formed.sized.events)) (omega (arith, formed.sized.places))
 
-    module _ {c : Checked} {after left : List ℕ}
+    module _ {c : Reply Unit} {after left : List ℕ}
         (step : StepLeaves net.places net.groups.number net.groups.homes takes gives estimates remainders c after left) where
       asks : ask (net_of net) s event ≡ asked_of e c
       asks =
@@ -123,13 +120,13 @@ module _ {net : Net} {estimates remainders : List ℕ} (run : Running net estima
           ∙ ap (asked_of e) (sym step.0)
 
       -- questions 11 and 12
-      pub step-refused : (n : ℕ) → c ≡ Refused n → Steps net event estimates remainders after left (Answer.Refused n)
+      pub step-refused : (n : ℕ) → c ≡ refusal n → Steps net event estimates remainders after left (refusal n)
       unfolding estimates_after remainders_after
       step-refused n refused =
           rw (step.1, step.2, ← step.0, refused) (refused-steps event n (asks ∙ ap (asked_of e) refused))
 
       -- the event is recorded, and the limits give the verdict
-      pub step-recorded : c ≡ Good → {answer : Answer}
+      pub step-recorded : c ≡ (value tt) → {answer : Reply Verdict}
           → answer
           ≡ answer_of (tables_weighed net.places net.groups.number net.limits net.groups.homes takes gives after left net.ceilings net.weights)
           → Steps net event estimates remainders after left answer
@@ -166,7 +163,7 @@ module _ {net : Net} {estimates remainders : List ℕ} (run : Running net estima
               }
 
 -- the line of an event that is judged and recorded
-pub line-is : {net : Net} {event : ℕ} {estimates remainders after left : List ℕ} {answer : Answer} → Steps net event estimates remainders after left answer
+pub line-is : {net : Net} {event : ℕ} {estimates remainders after left : List ℕ} {answer : Reply Verdict} → Steps net event estimates remainders after left answer
     → {numbers : List ℕ} → numbers ≡ unplaced_numbers net.groups.number net.groups.around left
     → line_bytes event answer net.places (λ p. get_or after p 0) net.groups.number (λ i. get_or numbers i 0)
     ≡ line (net_of net) (state_in estimates remainders) event

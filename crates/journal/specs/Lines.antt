@@ -3,8 +3,6 @@
 use Rattle.std.specs.Prelude.{ℕ, zero, suc, ◌+◌, ◌/◌, ◌%◌, cond, List, [], ◌∷◌, ◌++◌, ltb}
 use Rattle.codec.specs.Joined.{joined}
 use Rattle.net.specs.declared.Verdict.TheVariants.{Allow, Hold}
-use Rattle.net.specs.declared.Answer.{Answer}
-use Rattle.net.specs.declared.Answer.TheVariants.{Given, Refused}
 
 -- ---- numbers
 
@@ -42,10 +40,10 @@ abbrev pub numbered : List ℕ → ℕ → List ℕ
 numbered word n = word ++ (space ∷ decimal n)
 
 -- "the word (allow, hold, refused), limit or refusal number or 0"
-abbrev pub answer_bytes : Answer → List ℕ
-answer_bytes (Given Allow) = numbered allow_word 0
-answer_bytes (Given (Hold limit)) = numbered hold_word limit
-answer_bytes (Refused n) = numbered refused_word n
+abbrev pub answer_bytes : Reply Verdict → List ℕ
+answer_bytes (value Allow) = numbered allow_word 0
+answer_bytes (value (Hold limit)) = numbered hold_word limit
+answer_bytes (refusal n) = numbered refused_word n
 
 -- ---- lines
 
@@ -54,7 +52,7 @@ abbrev pub spaced : ℕ → (ℕ → ℕ) → List ℕ
 spaced n f = joined n (λ i. space ∷ decimal (f i))
 
 -- the line of an event: its number, the answer, the estimates of the places and the unplaced numbers of the groups
-unfoldable pub line_bytes : ℕ → Answer → ℕ → (ℕ → ℕ) → ℕ → (ℕ → ℕ) → List ℕ
+unfoldable pub line_bytes : ℕ → Reply Verdict → ℕ → (ℕ → ℕ) → ℕ → (ℕ → ℕ) → List ℕ
 line_bytes event answer places estimate groups unplaced =
     decimal event ++ (space ∷ answer_bytes answer) ++ spaced places estimate ++ spaced groups unplaced ++ (newline ∷ [])
 

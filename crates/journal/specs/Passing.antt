@@ -7,9 +7,6 @@ use Rattle.numbers.specs.Number.{longest_number}
 use Rattle.codec.specs.Reader.{ok, no, number}
 use Rattle.net.specs.declared.Net.{Net}
 use Rattle.net.specs.declared.Observer.{Observer}
-use Rattle.net.specs.declared.Answer.{Answer}
-use Rattle.net.specs.declared.Checked.{Checked}
-use Rattle.net.specs.declared.Checked.TheVariants.{Good, Refused}
 use Rattle.net.specs.Bounds.{most_places, most_groups}
 use Rattle.net.specs.View.{net_of}
 use Rattle.net.specs.Check.{net_check}
@@ -58,10 +55,10 @@ Locates seen out (Located.Refused used) =
     (used ≤ length out) × ((rest : List ℕ) → (length seen < longest_number → rest ≡ []) → take used out ≡ printed (seen ++ rest))
 
 -- the net and the lines that are left to print, or all that is printed
-abbrev pub OpensAs : Checked → List ℕ → ℕ → Net → Observer → List ℕ → ℕ → Type 0
-OpensAs Good seen end net observer out used =
+abbrev pub OpensAs : Reply Unit → List ℕ → ℕ → Net → Observer → List ℕ → ℕ → Type 0
+OpensAs (value tt) seen end net observer out used =
     (rest : List ℕ) → printed (seen ++ rest) ≡ lines (net_of net) (state_in observer.estimates observer.remainders) (drop end seen ++ rest)
-OpensAs (Refused n) seen end net observer out used = (rest : List ℕ) → take used out ≡ printed (seen ++ rest)
+OpensAs (refusal n) seen end net observer out used = (rest : List ℕ) → take used out ≡ printed (seen ++ rest)
 
 abbrev pub Opens : List ℕ → ℕ → List ℕ → Opened → Type 0
 Opens seen end out r = OpensAs r.checked seen end r.net r.observer out r.used
@@ -69,7 +66,7 @@ Opens seen end out r = OpensAs r.checked seen end r.net r.observer out r.used
 -- ---- events
 
 -- an event is judged and recorded
-pub record Steps (net : Net) (event : ℕ) (estimates remainders after left : List ℕ) (answer : Answer) : Type 0 where
+pub record Steps (net : Net) (event : ℕ) (estimates remainders after left : List ℕ) (answer : Reply Verdict) : Type 0 where
   pub judges : answer ≡ answer_of (judged (net_of net) (state_in estimates remainders) event)
   pub leaves : Alike (net_of net) (state_in after left) (state_after (net_of net) (state_in estimates remainders) event)
   pub running : Running net after left

@@ -50,6 +50,7 @@ pub fn pass_events(
 {
     let mut at = from;
     let mut used: usize = 0;
+    // a while: the position moves by one to five bytes a turn, and the room for lines ends the turns
     while LONGEST_LINE <= out.len() - used {
         let next = input::next_number(seen, at);
         match next {

@@ -59,10 +59,8 @@ fn put_numbers(out: &mut [u8], at: usize, count: usize, numbers: &[u32]) -> usiz
     ensures { Walked true out.old at (spaced count (λ i. get_or numbers.now i 0)) out.new result }
 {
     let mut next = at;
-    let mut i = 0;
-    while i < count {
-        next = put_spaced(out, next, numbers[i]);
-        i += 1;
+    for number in &numbers[..count] {
+        next = put_spaced(out, next, *number);
     }
     next
 }
@@ -102,10 +100,8 @@ fn put_text(out: &mut [u8], at: usize, text: &[u8]) -> usize
     ensures { Walked true out.old at text.now out.new result }
 {
     let mut next = at;
-    let mut i = 0;
-    while i < text.len() {
-        next = put_byte(out, next, text[i]);
-        i += 1;
+    for byte in text {
+        next = put_byte(out, next, *byte);
     }
     next
 }

@@ -142,9 +142,7 @@ fn run(
     let mut at = start;
     let mut end = held;
     // A proved loop has to end, and nothing says that the input does: so many turns no run uses up.
-    let mut turns = u64::MAX;
-    while 0 < turns {
-        turns -= 1;
+    for _ in 0..u64::MAX {
         let pass = events::pass_events(
             net,
             &space[..end],
@@ -157,11 +155,8 @@ fn run(
             return;
         }
         at = pass.at;
-        let stop = pass.stop;
-        match stop {
-            Stop::Ended => {
-                return;
-            }
+        match pass.stop {
+            Stop::Ended => return,
             Stop::Full => {}
             Stop::Short => {
                 let left = end - at;

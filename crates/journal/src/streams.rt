@@ -38,6 +38,7 @@ pub fn fill(rt: &HostRuntime, space: &mut [u8], held: usize, wanted: usize) -> F
     ensures kept { take held space.new ≡ take held space.old }
 {
     let mut end = held;
+    // a while: a turn reads as many bytes as come
     while end < wanted {
         let more = read_more(rt, space, end);
         match more {
@@ -62,20 +63,11 @@ pub fn read_more(rt: &HostRuntime, space: &mut [u8], held: usize) -> More
     ensures kept { take held space.new ≡ take held space.old }
 {
     // A proved loop has to end, and nothing says that interruptions do: so many turns no run uses up.
-    let mut turns = u64::MAX;
-    while 0 < turns {
-        turns -= 1;
-        let once = read_once(rt, space, held);
-        match once {
-            Once::Moved(count) => {
-                return More::Bytes(count);
-            }
-            Once::End => {
-                return More::End;
-            }
-            Once::Failed => {
-                return More::Failed;
-            }
+    for _ in 0..u64::MAX {
+        match read_once(rt, space, held) {
+            Once::Moved(count) => return More::Bytes(count),
+            Once::End => return More::End,
+            Once::Failed => return More::Failed,
             Once::Interrupted => {}
         }
     }
@@ -101,21 +93,14 @@ pub fn write_out(rt: &HostRuntime, out: &[u8], used: usize) -> bool
     requires { used ≤ length out.now }
 {
     let mut done = 0;
-    let mut turns = u64::MAX;
-    while 0 < turns {
-        turns -= 1;
+    for _ in 0..u64::MAX {
         if used <= done {
             return true;
         }
-        let once = write_once(rt, out, done, used);
-        match once {
-            Once::Moved(count) => {
-                done += count;
-            }
+        match write_once(rt, out, done, used) {
+            Once::Moved(count) => done += count,
             Once::Interrupted => {}
-            _ => {
-                return false;
-            }
+            _ => return false,
         }
     }
     false
@@ -174,6 +159,7 @@ pub enum Skipped {
 
 pub fn skip(rt: &HostRuntime, space: &mut [u8], count: usize) -> Skipped {
     let mut left = count;
+    // a while: a turn drops as many bytes as come
     while 0 < left {
         let more = read_more(rt, space, 0);
         match more {
@@ -199,9 +185,5 @@ pub fn move_down(space: &mut [u8], at: usize, count: usize)
     requires { at + count ≤ length space.old }
     ensures { take count space.new ≡ take count (drop at space.old) }
 {
-    let mut i = 0;
-    while i < count {
-        space[i] = space[at + i];
-        i += 1;
-    }
+    space.copy_within(at..at + count, 0);
 }

@@ -13,17 +13,13 @@ fn main(rt: HostRuntime) -> io::Result<()> {
 }
 
 fn write_cases(rt: &impl Print) -> io::Result<()> {
-    write_case(rt, 0, 0)?;
-    write_case(rt, 127, 0)?;
-    write_case(rt, 128, 0)?;
-    write_case(rt, 16383, 0)?;
-    write_case(rt, 16384, 0)?;
-    write_case(rt, 65535, 0)?;
-    write_case(rt, 2097151, 0)?;
-    write_case(rt, 2097152, 0)?;
-    write_case(rt, 268435455, 0)?;
-    write_case(rt, 268435456, 0)?;
-    write_case(rt, 4294967295, 0)
+    let numbers = [
+        0, 127, 128, 16383, 16384, 65535, 2097151, 2097152, 268435455, 268435456, 4294967295,
+    ];
+    for number in &numbers {
+        write_case(rt, *number, 0)?;
+    }
+    Ok(())
 }
 
 // The buffer has six bytes.
@@ -36,7 +32,7 @@ fn room_cases(rt: &impl Print) -> io::Result<()> {
     write_case(rt, 65535, 6)?;
     write_case(rt, 4294967295, 1)?;
     write_case(rt, 4294967295, 2)?;
-    write_case(rt, 4294967295, 18446744073709551615)
+    write_case(rt, 4294967295, usize::MAX)
 }
 
 fn read_cases(rt: &impl Print) -> io::Result<()> {
@@ -64,100 +60,70 @@ fn refused_cases(rt: &impl Print) -> io::Result<()> {
     read_case(rt, b"", 0)?;
     read_case(rt, b"\x01\x02", 2)?;
     read_case(rt, b"\x01\x02", 3)?;
-    read_case(rt, b"\x01\x02", 18446744073709551615)
+    read_case(rt, b"\x01\x02", usize::MAX)
 }
 
 fn signed_cases(rt: &impl Print) -> io::Result<()> {
-    signed_case(rt, b"0", 0)?;
-    signed_case(rt, b"-1", -1)?;
-    signed_case(rt, b"1", 1)?;
-    signed_case(rt, b"-1000000000", -1000000000)?;
-    signed_case(rt, b"1000000000", 1000000000)?;
-    signed_case(rt, b"-2147483648", -2147483648)?;
-    signed_case(rt, b"2147483647", 2147483647)?;
-    signed_case(rt, b"-2147483649", -2147483649)?;
-    signed_case(rt, b"2147483648", 2147483648)
-}
-
-// The number, written at a position of six bytes that were EE.
-fn write_case(rt: &impl Print, number: u32, at: usize) -> io::Result<()> {
-    put(rt, b"write ")?;
-    decimal(rt, number as u64)?;
-    put(rt, b" at ")?;
-    decimal(rt, at as u64)?;
-    put(rt, b": length ")?;
-    decimal(rt, numbers::number_length(number) as u64)?;
-    let mut buffer = [0xEEu8; 6];
-    written(rt, numbers::write_number(&mut buffer, at, number))?;
-    bytes(rt, &buffer)?;
-    put(rt, b"\n")
-}
-
-fn written(rt: &impl Print, answer: Option<usize>) -> io::Result<()> {
-    match answer {
-        Some(after) => {
-            put(rt, b", next ")?;
-            decimal(rt, after as u64)?;
-        }
-        None => put(rt, b", full")?,
-    }
-    put(rt, b", bytes")
-}
-
-// What stands at a position of the bytes.
-fn read_case(rt: &impl Print, s: &[u8], at: usize) -> io::Result<()> {
-    put(rt, b"read")?;
-    bytes(rt, s)?;
-    put(rt, b" at ")?;
-    decimal(rt, at as u64)?;
-    let Some((number, next)) = numbers::read_number(s, at) else {
-        return put(rt, b": nothing\n");
-    };
-    put(rt, b": ")?;
-    decimal(rt, number as u64)?;
-    put(rt, b", next ")?;
-    decimal(rt, next as u64)?;
-    put(rt, b"\n")
-}
-
-// The signed number, under its name, whether it comes back from what it is stored as, and the bytes
-// of that.
-fn signed_case(rt: &impl Print, name: &[u8], n: i64) -> io::Result<()> {
-    put(rt, b"signed ")?;
-    put(rt, name)?;
-    put(rt, b": stored ")?;
-    let stored = numbers::stored_from_signed(n);
-    decimal(rt, stored)?;
-    if 4294967295 < stored {
-        return put(rt, b", too large\n");
-    }
-    back(rt, numbers::signed_from_stored(stored as u32) == n)?;
-    write_case(rt, stored as u32, 0)
-}
-
-fn back(rt: &impl Print, same: bool) -> io::Result<()> {
-    if same {
-        put(rt, b", the same back, ")
-    } else {
-        put(rt, b", another back, ")
-    }
-}
-
-fn bytes(rt: &impl Print, s: &[u8]) -> io::Result<()> {
-    for value in s {
-        byte(rt, *value)?;
+    let numbers = [
+        0,
+        -1,
+        1,
+        -1000000000,
+        1000000000,
+        -2147483648,
+        2147483647,
+        -2147483649,
+        2147483648,
+    ];
+    for n in &numbers {
+        signed_case(rt, *n)?;
     }
     Ok(())
 }
 
-fn byte(rt: &impl Print, value: u8) -> io::Result<()> {
-    print!(rt; " {value:02x}")
+// The number, written at a position of six bytes that were EE.
+fn write_case(rt: &impl Print, number: u32, at: usize) -> io::Result<()> {
+    let length = numbers::number_length(number);
+    print!(rt; "write {number} at {at}: length {length}")?;
+    let mut buffer = [0xEEu8; 6];
+    match numbers::write_number(&mut buffer, at, number) {
+        Some(after) => print!(rt; ", next {after}")?,
+        None => print!(rt; ", full")?,
+    }
+    print!(rt; ", bytes")?;
+    bytes(rt, &buffer)?;
+    println!(rt)
 }
 
-fn decimal(rt: &impl Print, n: u64) -> io::Result<()> {
-    rt.print(n)
+// What stands at a position of the bytes.
+fn read_case(rt: &impl Print, s: &[u8], at: usize) -> io::Result<()> {
+    print!(rt; "read")?;
+    bytes(rt, s)?;
+    print!(rt; " at {at}: ")?;
+    match numbers::read_number(s, at) {
+        Some((number, next)) => println!(rt; "{number}, next {next}"),
+        None => println!(rt; "nothing"),
+    }
 }
 
-fn put(rt: &impl Print, text: &[u8]) -> io::Result<()> {
-    rt.write_all(text)
+// The signed number, whether it comes back from what it is stored as, and the bytes of that.
+fn signed_case(rt: &impl Print, n: i64) -> io::Result<()> {
+    let stored = numbers::stored_from_signed(n);
+    print!(rt; "signed {n}: stored {stored}")?;
+    let Ok(number) = u32::try_from(stored) else {
+        return println!(rt; ", too large");
+    };
+    if numbers::signed_from_stored(number) == n {
+        print!(rt; ", the same back, ")?;
+    } else {
+        print!(rt; ", another back, ")?;
+    }
+    write_case(rt, number, 0)
+}
+
+fn bytes(rt: &impl Print, s: &[u8]) -> io::Result<()> {
+    for value in s {
+        print!(rt; " {value:02x}")?;
+    }
+    Ok(())
 }

@@ -28,7 +28,6 @@ use Rattle.theory.proofs.Lists as Lists
 use Rattle.theory.proofs.Fitting.{Good, Fitting}
 use Rattle.codec.specs.Reader.{Result, ok, read}
 use Rattle.codec.specs.Output.{fitting, answer, Pair, both_fitting, both_answer}
-use Rattle.codec.specs.declared.WroteBoth.TheVariants as WroteBoth
 use Rattle.net.specs.declared.Edition.{Edition}
 use Rattle.net.specs.declared.Edition.TheVariants.{First}
 use Rattle.net.specs.Answers.{answer_of}
@@ -239,7 +238,7 @@ module _ (d : List ℕ) (net : Net) (says : described d ≡ value net) (b : List
       }
 
   state-miscounted : (list : List ℕ) (n described room : ℕ) → loose_set net list ≡ true
-      → (both_answer described room (count_reply d b list n) ≡ WroteBoth.Refused 15) ↔ ((bound < n) ⊎ (Countable net (Within net s) list n → ⊥))
+      → (both_answer described room (count_reply d b list n) ≡ refusal 15) ↔ ((bound < n) ⊎ (Countable net (Within net s) list n → ⊥))
   state-miscounted list n described room loose =
       let counts = (counted_is d net says list n).1 b s bytes in
       Iff.trans (rooms-iff (count_reply d b list n) described room 15 (λ e. omega arith))

@@ -12,13 +12,12 @@ use Rattle.theory.specs.Sums.{every}
 use Rattle.theory.proofs.Sums.{every_true, true-every, and_left, and_right, and-true}
 use Rattle.theory.specs.Nets.{Net}
 use Rattle.theory.specs.Recording.{State, Alike, bound, older_bound, unplaced}
-use Rattle.theory.specs.Replies.{Reply, value, ◌>>=◌, question}
+use Rattle.theory.specs.Replies.{Reply, value, ◌>>=◌, question, refusal}
 use Rattle.theory.specs.Answers.{numbers_up_to, too_large}
 use Rattle.theory.proofs.Answers.{clash, then-yes, question-yes, question-no}
 use Rattle.theory.proofs.Alike.{up_to-alike}
 use Rattle.codec.specs.Reader.{Reader, read}
 use Rattle.codec.specs.Output.{answer}
-use Rattle.codec.specs.declared.Wrote.TheVariants.{Refused}
 use Rattle.codec.proofs.Inverse.{read_ok}
 use Rattle.codec.proofs.Wider.{Wider}
 use Rattle.description.specs.Grammar.{Parts, parts, net_from, description}
@@ -132,7 +131,7 @@ module _ (d : List ℕ) (net : Net) (says : described d ≡ value net) (b : List
       go true e none = absurd (none (saved First net s) s (older-forth e) (record { estimates = λ p l. refl; lows = λ i l. refl; highs = λ i l. refl }))
       go false e none = refl
 
-  too_large_lem : (room : ℕ) → (answer room (older_reply d b) ≡ Refused 17) ↔ Unread
+  too_large_lem : (room : ℕ) → (answer room (older_reply d b) ≡ refusal 17) ↔ Unread
   too_large_lem room =
       Iff.trans (room-iff (older_reply d b) room 17 (λ e. omega arith))
       (rw older-is (Iff.trans (question-no (numbers_up_to older_bound net s) too_large (λ e. clash (cc))) unread))

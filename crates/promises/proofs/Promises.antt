@@ -6,6 +6,7 @@ use mathlib.Core.List.{List, ◌++◌}
 use borrow.Author.Tests.{leb-true}
 use lib.Dec.{leb}
 use lib.ListN.{length, drop}
+use Rattle.codec.proofs.Replies.{value-parts}
 use Rattle.theory.specs.Replies.{Reply, value, refusal, ◌>>=◌, question}
 use Rattle.theory.specs.Answers.{no_room}
 use Rattle.theory.proofs.Answers.{clash}
@@ -13,8 +14,6 @@ use Rattle.theory.proofs.Least.{least-determined}
 use Rattle.theory.proofs.Exact.{judged-determined, impossible-determined, over_range-determined, groups-determined, estimates-determined, unplaced-determined}
 use Rattle.theory.proofs.Faithful.{possible-starts}
 use Rattle.theory.proofs.Sums.{and_left, and_right}
-use Rattle.codec.specs.declared.Wrote.TheVariants.{Bytes, Refused}
-use Rattle.codec.specs.declared.WroteBoth.TheVariants as WroteBoth
 use Rattle.codec.specs.Output.{fitting, wrote_of, left_of, answer, left, Pair, both_fitting, wrote_both_of, description_part, state_part, both_answer, description_left, state_left}
 use Rattle.promises.specs.Promises.{Demand1, Starts, Determined, Promises}
 use Rattle.promises.proofs.Bytes.{list-on-bytes, state-on-bytes}
@@ -35,27 +34,27 @@ demand-1 =
       both_written = both-written;
     }
   where
-    refused : (out : List ℕ) (r : Reply (List ℕ)) (n : ℕ) → wrote_of r ≡ Refused n → left_of out r ≡ out
+    refused : (out : List ℕ) (r : Reply (List ℕ)) (n : ℕ) → wrote_of r ≡ refusal n → left_of out r ≡ out
     refused out (value b) n e = clash (cc)
     refused out (refusal m) n e = refl
 
-    written : (out : List ℕ) (reply : Reply (List ℕ)) (n : ℕ) → answer (length out) reply ≡ Bytes n
+    written : (out : List ℕ) (reply : Reply (List ℕ)) (n : ℕ) → answer (length out) reply ≡ value n
         → (b : List ℕ) × (reply ≡ value b) × (length b ≡ n) × (n ≤ length out) × (left out reply ≡ b ++ drop n out)
     written out (refusal m) n e = clash (cc)
     written out (value b) n e = enough (leb (length b) (length out)) refl e
       where
-        enough : (t : Bool) → leb (length b) (length out) ≡ t → wrote_of (question t no_room >>= λ _. value b) ≡ Bytes n
+        enough : (t : Bool) → leb (length b) (length out) ≡ t → wrote_of (question t no_room >>= λ _. value b) ≡ value n
             → (c : List ℕ) × (value b ≡ value c) × (length c ≡ n) × (n ≤ length out)
             × (left_of out (question t no_room >>= λ _. value b) ≡ c ++ drop n out)
         enough false u v = clash (cc)
         enough true u v = let size : length b ≡ n = cc in (b, refl, size, rw (← size) (leb-true _ _ u), rw size)
 
-    both-refused : (described out : List ℕ) (r : Reply Pair) (n : ℕ) → wrote_both_of r ≡ WroteBoth.Refused n
+    both-refused : (described out : List ℕ) (r : Reply Pair) (n : ℕ) → wrote_both_of r ≡ refusal n
         → (left_of described (description_part r) ≡ described) × (left_of out (state_part r) ≡ out)
     both-refused described out (value pair) n e = clash (cc)
     both-refused described out (refusal m) n e = (refl, refl)
 
-    both-written : (described out : List ℕ) (reply : Reply Pair) (n k : ℕ) → both_answer (length described) (length out) reply ≡ WroteBoth.Bytes n k
+    both-written : (described out : List ℕ) (reply : Reply Pair) (n k : ℕ) → both_answer (length described) (length out) reply ≡ value (n, k)
         → (pair : Pair) × (reply ≡ value pair)
         × (length pair.description ≡ n) × (n ≤ length described) × (description_left described out reply ≡ pair.description ++ drop n described)
         × (length pair.state ≡ k) × (k ≤ length out) × (state_left described out reply ≡ pair.state ++ drop k out)
@@ -71,14 +70,15 @@ demand-1 =
         both : Bool → Reply Pair
         both t = question t no_room >>= λ _. value pair
 
-        enough : (t : Bool) → (first && second) ≡ t → wrote_both_of (both t) ≡ WroteBoth.Bytes n k
+        enough : (t : Bool) → (first && second) ≡ t → wrote_both_of (both t) ≡ value (n, k)
             → (other : Pair) × (value pair ≡ value other)
             × (length other.description ≡ n) × (n ≤ length described) × (left_of described (description_part (both t)) ≡ other.description ++ drop n described)
             × (length other.state ≡ k) × (k ≤ length out) × (left_of out (state_part (both t)) ≡ other.state ++ drop k out)
         enough false u v = clash (cc)
         enough true u v =
-            let size : length pair.description ≡ n = cc in
-            let other : length pair.state ≡ k = cc in (
+            let sizes = value-parts v in
+            let size : length pair.description ≡ n = sizes.0 in
+            let other : length pair.state ≡ k = sizes.1 in (
               pair,
               refl,
               size,

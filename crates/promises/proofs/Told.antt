@@ -16,33 +16,27 @@ use Rattle.theory.proofs.Exact.{replies, Retold, retold}
 use Rattle.theory.specs.Nets.{Net, Marking}
 use Rattle.theory.specs.Demands.{Answered, Demand3}
 use Rattle.theory.specs.Demands as Demands
-use Rattle.codec.specs.declared.Wrote.{Wrote}
-use Rattle.codec.specs.declared.WroteBoth.TheVariants as WroteBoth
 use Rattle.codec.specs.Output.{wrote_of, answer, Pair, wrote_both_of, both_answer}
 use Rattle.net.specs.declared.Observer.{Observer}
-use Rattle.net.specs.declared.Checked.TheVariants as Checked
+use Rattle.net.specs.declared.Verdict as Memory
 use Rattle.net.specs.declared.Verdict.TheVariants.{Allow, Hold}
-use Rattle.net.specs.declared.Answer.{Answer}
-use Rattle.net.specs.declared.Answer.TheVariants.{Given, Refused}
-use Rattle.net.specs.declared.Known.TheVariants.{Yes}
-use Rattle.net.specs.Answers.{answer_of, known_of}
-use Rattle.net.specs.Observers.{observed_of}
+use Rattle.net.specs.Answers.{answer_of}
 use Rattle.host.specs.Numbers.{wrote_number, answer_number, known_number}
 use Rattle.host.proofs.Numbers.{wrote-refused, judge-refused, judge-held, judge-allowed, known-yes}
 use Rattle.promises.specs.Promises.{on_bytes_told, on_values_told, host_told}
 
 -- ---- judging
 
-refused-iff : (j : Reply Verdict) (n : ℕ) → (answer_of j ≡ Refused n) ↔ (j ≡ refusal n)
+refused-iff : (j : Reply Verdict) (n : ℕ) → (answer_of j ≡ refusal n) ↔ (j ≡ refusal n)
 refused-iff (value v) n = ((λ e. clash (cc)), (λ e. clash (cc)))
 refused-iff (refusal k) n = ((λ e. cc), (λ e. cc))
 
-held-iff : (j : Reply Verdict) (l : ℕ) → (answer_of j ≡ Given (Hold l)) ↔ (j ≡ value (hold l))
+held-iff : (j : Reply Verdict) (l : ℕ) → (answer_of j ≡ value (Hold l)) ↔ (j ≡ value (hold l))
 held-iff (value allow) l = ((λ e. clash (cc)), (λ e. clash (cc)))
 held-iff (value (hold k)) l = ((λ e. cc), (λ e. cc))
 held-iff (refusal k) l = ((λ e. clash (cc)), (λ e. clash (cc)))
 
-allowed-iff : (j : Reply Verdict) → (answer_of j ≡ Given Allow) ↔ (j ≡ value allow)
+allowed-iff : (j : Reply Verdict) → (answer_of j ≡ value Allow) ↔ (j ≡ value allow)
 allowed-iff (value allow) = ((λ e. cc), (λ e. cc))
 allowed-iff (value (hold k)) = ((λ e. clash (cc)), (λ e. clash (cc)))
 allowed-iff (refusal k) = ((λ e. clash (cc)), (λ e. clash (cc)))
@@ -53,23 +47,14 @@ allowed-iff (refusal k) = ((λ e. clash (cc)), (λ e. clash (cc)))
 pub report-iff : (b : Bool) {P : Type 0} → (b ≡ true) ↔ P → (value b ≡ value true) ↔ P
 report-iff b told = ((λ e. told.0 (cc)), (λ p. ap value (told.1 p)))
 
-pub known-told : (r : Reply Bool) → (known_number (known_of r) ≡ pos 1) ↔ (r ≡ value true)
-known-told r = Iff.trans (known-yes (known_of r)) (go r)
-  where
-    go : (r : Reply Bool) → (known_of r ≡ Yes) ↔ (r ≡ value true)
-    go (value true) = ((λ e. refl), (λ e. refl))
-    go (value false) = ((λ e. clash (cc)), (λ e. clash (cc)))
-    go (refusal n) = ((λ e. clash (cc)), (λ e. clash (cc)))
+pub known-told : (r : Reply Bool) → (known_number r ≡ pos 1) ↔ (r ≡ value true)
+known-told r = known-yes r
 
 -- ---- recording
 
-wrote-iff : (r : Reply (List ℕ)) (n : ℕ) → (wrote_of r ≡ Wrote.Refused n) ↔ (r ≡ refusal n)
+wrote-iff : (r : Reply (List ℕ)) (n : ℕ) → (wrote_of r ≡ refusal n) ↔ (r ≡ refusal n)
 wrote-iff (value b) n = ((λ e. clash (cc)), (λ e. clash (cc)))
 wrote-iff (refusal k) n = ((λ e. cc), (λ e. cc))
-
-observed-iff : (r : Reply Observer) (n : ℕ) → ((observed_of r).checked ≡ Checked.Refused n) ↔ (r ≡ refusal n)
-observed-iff (value b) n = ((λ e. clash (cc)), (λ e. clash (cc)))
-observed-iff (refusal k) n = ((λ e. cc), (λ e. cc))
 
 -- ---- room
 
@@ -79,18 +64,18 @@ asked-last : {A : Type 0} (a : A) (q : Bool) (n : ℕ) → (no_room ≡ n → �
 asked-last a true n other = ((λ e. e), (λ e. e))
 asked-last a false n other = ((λ e. absurd (other (cc))), (λ e. clash (cc)))
 
-pub room-iff : (r : Reply (List ℕ)) (room n : ℕ) → (no_room ≡ n → ⊥) → (answer room r ≡ Wrote.Refused n) ↔ (r ≡ refusal n)
+pub room-iff : (r : Reply (List ℕ)) (room n : ℕ) → (no_room ≡ n → ⊥) → (answer room r ≡ refusal n) ↔ (r ≡ refusal n)
 room-iff (refusal k) room n other = wrote-iff (refusal k) n
 room-iff (value b) room n other =
     let q = leb (length b) room in
     Iff.trans (wrote-iff (question q no_room >>= λ _. value b) n) (asked-last b q n other)
 
-wrote_both-iff : (r : Reply Pair) (n : ℕ) → (wrote_both_of r ≡ WroteBoth.Refused n) ↔ (r ≡ refusal n)
+wrote_both-iff : (r : Reply Pair) (n : ℕ) → (wrote_both_of r ≡ refusal n) ↔ (r ≡ refusal n)
 wrote_both-iff (value pair) n = ((λ e. clash (cc)), (λ e. clash (cc)))
 wrote_both-iff (refusal k) n = ((λ e. cc), (λ e. cc))
 
 pub rooms-iff : (r : Reply Pair) (described room n : ℕ) → (no_room ≡ n → ⊥)
-    → (both_answer described room r ≡ WroteBoth.Refused n) ↔ (r ≡ refusal n)
+    → (both_answer described room r ≡ refusal n) ↔ (r ≡ refusal n)
 rooms-iff (refusal k) described room n other = wrote_both-iff (refusal k) n
 rooms-iff (value pair) described room n other =
     let q = leb (length pair.description) described && leb (length pair.state) room in
@@ -109,27 +94,27 @@ bytes-told kept r j =
       allowed = allowed-iff j;
     }
 
-pub values-told : (r : Reply Observer) (j : Reply Verdict) → Retold (replies Observer) on_values_told r j (observed_of r).checked (answer_of j)
+pub values-told : (r : Reply Observer) (j : Reply Verdict) → Retold (replies Observer) on_values_told r j r (answer_of j)
 values-told r j =
     record {
-      rejected = λ n l. observed-iff r (suc n);
+      rejected = λ n l. Iff.rfl;
       refused = λ n. refused-iff j (suc n);
       held = λ l. held-iff j (suc l);
       allowed = allowed-iff j;
     }
 
 -- and in the host's numbers: no refusal and no limit that an event from 1 to T is answered with has the number 0
-pub in-numbers : {net : Net} {M : Marking → Type 0} {after : ℕ → ℕ} {e : ℕ} {w : Wrote} {a : Answer}
+pub in-numbers : {net : Net} {M : Marking → Type 0} {after : ℕ → ℕ} {e : ℕ} {w : Reply ℕ} {a : Reply Memory.Verdict}
     → Demand3 on_bytes_told net M after e w a → Demand3 host_told net M after e (wrote_number w) (answer_number a)
 in-numbers {w = w} {a = a} d = retold same d
   where
-    no-refusal : Answered on_bytes_told a → (n : ℕ) → a ≡ Refused n → n ≡ 0 → ⊥
+    no-refusal : Answered on_bytes_told a → (n : ℕ) → a ≡ refusal n → n ≡ 0 → ⊥
     no-refusal (Demands.allowed u) n v z = clash (cc)
     no-refusal (Demands.held l u) n v z = clash (cc)
     no-refusal (Demands.cannot u) n v z = let here : 11 ≡ n = cc in omega arith
     no-refusal (Demands.above u) n v z = let here : 12 ≡ n = cc in omega arith
 
-    no-hold : Answered on_bytes_told a → (l : ℕ) → a ≡ Given (Hold l) → l ≡ 0 → ⊥
+    no-hold : Answered on_bytes_told a → (l : ℕ) → a ≡ value (Hold l) → l ≡ 0 → ⊥
     no-hold (Demands.allowed u) l v z = clash (cc)
     no-hold (Demands.held k u) l v z = let here : suc k ≡ l = cc in omega arith
     no-hold (Demands.cannot u) l v z = clash (cc)

@@ -34,13 +34,13 @@ use Rattle.net.specs.View.{groups_of, net_of}
 use Rattle.net.specs.Check.{net_check}
 use Rattle.net.proofs.Check.{well-formed, good-net}
 use Rattle.net.specs.Answers.{answer_of}
-use Rattle.net.specs.Observers.{state_of, observer_of, observed_of, fresh_observer}
+use Rattle.net.specs.Observers.{state_of, observer_of, fresh_observer}
 use Rattle.states.specs.States.Writing.{Fit}
 use Rattle.states.specs.States.Nets.{saved}
 use Rattle.states.proofs.Nets.{fit-fitting, fit_next, fit-fresh}
 use Rattle.values.specs.Values.{both_check, restored_observer, observer_output, recorded_observer, observer_judged, observer_known}
 use Rattle.values.proofs.Observers.{before, observer-edition, both-good, both-passed, output-is, same-observer, state-observer, state-fits, write_read}
-use Rattle.promises.specs.Lists.{bytes_of, edition_numbered, in_edition, on_values, memory}
+use Rattle.promises.specs.Lists.{observer_of_reply, bytes_of, edition_numbered, in_edition, on_values, memory}
 use Rattle.promises.specs.Promises.{on_values_told, ListsOnValues, Leaves, StateOnValues}
 use Rattle.promises.proofs.Told.{report-iff, values-told}
 use Rattle.promises.proofs.Bytes.{recorded-fit}
@@ -83,7 +83,7 @@ module _ (net : Net) (o : Observer) (met : both_check net o ≡ value tt) where
 
   state-demand-3 : (e : ℕ) → e < net.events
       → Demand3 on_values_told (net_of net) (Within (net_of net) (state_of o)) (next (net_of net) (state_of o) e).estimate e
-      (observed_of (recorded_observer net o (suc e))).checked (answer_of (observer_judged net o (suc e)))
+      (recorded_observer net o (suc e)) (answer_of (observer_judged net o (suc e)))
   state-demand-3 e l =
       retold (values-told (recorded_observer net o (suc e)) (observer_judged net o (suc e)))
       (retold
@@ -149,7 +149,7 @@ in-edition edition was net s = refl
 -- ---- after a list
 
 module _ (net : Net) (checked : net_check net ≡ value tt) where
-  fresh-is : (observed_of (fresh_observer net)).observer ≡ observer_of First net (fresh (net_of net))
+  fresh-is : observer_of_reply (fresh_observer net) ≡ observer_of First net (fresh (net_of net))
   unfolding fresh_observer
   fresh-is = rw checked
 

@@ -1,37 +1,41 @@
 -- Laws of rounds: each way out of the code is a case of what the definitions say.
 use Prim.Native.Nat.{ℕ, ◌+◌, ◌<◌, ◌≤◌}
-use mathlib.Core.Path.{◌≡◌}
+use mathlib.Core.Path.{◌≡◌, refl, sym}
 use mathlib.Core.List.{List}
 use native.Mathlib.Numerals.{add-one}
 use lib.ListN.{length, get_or, drop, drop_of_length-le}
 use lib.Seq.{drop-cons}
-use Rattle.theory.specs.Replies.{value, refusal}
+use Rattle.theory.specs.Replies.{value, refusal, Reply}
+use Rattle.theory.specs.Answers as Theory
 use Rattle.net.specs.declared.Net.{Net}
 use Rattle.net.specs.declared.Observer.{Observer}
-use Rattle.net.specs.declared.Observed.{Observed}
 use Rattle.net.specs.declared.Verdict.{Verdict}
 use Rattle.net.specs.declared.Verdict.TheVariants.{Allow, Hold}
-use Rattle.net.specs.declared.Answer.{Answer}
-use Rattle.net.specs.declared.Answer.TheVariants.{Given, Refused}
 use Rattle.net.specs.Answers.{answer_of}
-use Rattle.net.specs.Observers.{observed_of, fresh_observer}
+use Rattle.net.specs.Observers.{fresh_observer}
 use Rattle.description.specs.Read.{description_read}
-use Rattle.description.proofs.Answered.{read-checked}
 use Rattle.values.specs.Values.{recorded_observer, observer_judged, observer_output}
-use Rattle.rounds.specs.Rounds.{round, rounds, rounds_reply}
+use Rattle.rounds.specs.Rounds.{where_allowed, round, rounds, rounds_reply}
 
-module _ (net : Net) (o : Observer) (event : ℕ) {a : Answer} (judged : a ≡ answer_of (observer_judged net o event)) where
-  pub round-allowed : {v : Verdict} → a ≡ Given v → v ≡ Allow → {r : Observed} → r ≡ observed_of (recorded_observer net o event) → r.observer ≡ round net o event
+module _ (net : Net) (o : Observer) (event : ℕ) where
+  pub round-recorded : observer_judged net o event ≡ value Theory.allow → {after : Observer} → recorded_observer net o event ≡ value after → after ≡ round net o event
   unfolding round
-  round-allowed given allowed recorded = rw (← judged, given, allowed, recorded)
+  round-recorded allowed recorded = rw (allowed, recorded)
 
-  pub round-held : {v : Verdict} {limit : ℕ} → a ≡ Given v → v ≡ Hold limit → o ≡ round net o event
+  pub round-unrecorded : observer_judged net o event ≡ value Theory.allow → {n : ℕ} → recorded_observer net o event ≡ refusal n → o ≡ round net o event
   unfolding round
-  round-held given held = rw (← judged, given, held)
+  round-unrecorded allowed refused = rw (allowed, refused)
 
-  pub round-refused : {n : ℕ} → a ≡ Refused n → o ≡ round net o event
+  -- an event that is not allowed
+  pub round-other : {a : Reply Verdict} → a ≡ answer_of (observer_judged net o event) → (a ≡ value Allow → ⊥) → o ≡ round net o event
   unfolding round
-  round-refused refused = rw (← judged, refused)
+  round-other {a} judged other = go a other (sym judged)
+    where
+      go : (a : Reply Verdict) → (a ≡ value Allow → ⊥) → answer_of (observer_judged net o event) ≡ a
+          → o ≡ where_allowed (answer_of (observer_judged net o event)) (recorded_observer net o event) o
+      go (value Allow) other e = absurd (other refl)
+      go (value (Hold l)) other e = rw e
+      go (refusal n) other e = rw e
 
 -- an event more, and none left
 module _ (net : Net) (o : Observer) (events : List ℕ) (i : ℕ) where
@@ -50,7 +54,7 @@ module _ (d events : List ℕ) where
   unfolding rounds_reply
   reply-refused n refused = rw refused
 
-  pub reply-is : {net : Net} → description_read d ≡ value net → {fresh : Observed} → fresh ≡ observed_of (fresh_observer net) → {last : Observer}
-      → last ≡ rounds net fresh.observer events → rounds_reply d events ≡ observer_output net last
-  unfolding rounds_reply fresh_observer
-  reply-is {net} described fresh last = rw (last, fresh, described, read-checked d net described)
+  pub reply-is : {net : Net} → description_read d ≡ value net → {fresh : Observer} → fresh_observer net ≡ value fresh → {last : Observer}
+      → last ≡ rounds net fresh events → rounds_reply d events ≡ observer_output net last
+  unfolding rounds_reply
+  reply-is {net} described begun last = rw (last, described, begun)

@@ -1,26 +1,25 @@
 -- Events judged one after the other, those that are allowed recorded, through the calls on values.
 use Rattle.std.specs.Prelude.{ℕ, List, [], ◌∷◌}
-use Rattle.theory.specs.Replies.{Reply, ◌>>=◌}
-use Rattle.codec.specs.declared.Wrote.{Wrote}
+use Rattle.theory.specs.Replies.{Reply, ◌>>=◌, value, refusal}
 use Rattle.net.specs.declared.Net.{Net}
 use Rattle.net.specs.declared.Observer.{Observer}
+use Rattle.net.specs.declared.Verdict.{Verdict}
 use Rattle.net.specs.declared.Verdict.TheVariants.{Allow, Hold}
-use Rattle.net.specs.declared.Answer.{Answer}
-use Rattle.net.specs.declared.Answer.TheVariants.{Given, Refused}
 use Rattle.net.specs.Answers.{answer_of}
-use Rattle.net.specs.Observers.{observed_of, fresh_observer}
+use Rattle.net.specs.Observers.{fresh_observer}
 use Rattle.description.specs.Read.{description_read}
 use Rattle.values.specs.Values.{recorded_observer, observer_judged, observer_output}
 
--- the first observer if the event is allowed
-abbrev pub where_allowed : Answer → Observer → Observer → Observer
-where_allowed (Given Allow) after before = after
-where_allowed (Given (Hold limit)) after before = before
-where_allowed (Refused n) after before = before
+-- the observer that recording leaves if the event is allowed, else the one before
+abbrev pub where_allowed : Reply Verdict → Reply Observer → Observer → Observer
+where_allowed (value Allow) (value after) before = after
+where_allowed (value Allow) (refusal n) before = before
+where_allowed (value (Hold limit)) recorded before = before
+where_allowed (refusal n) recorded before = before
 
 -- the observer after an event
 unfoldable pub round : Net → Observer → ℕ → Observer
-round net o event = where_allowed (answer_of (observer_judged net o event)) (observed_of (recorded_observer net o event)).observer o
+round net o event = where_allowed (answer_of (observer_judged net o event)) (recorded_observer net o event) o
 
 -- the observer after all events
 unfoldable pub rounds : Net → Observer → List ℕ → Observer
@@ -35,6 +34,6 @@ rounds_reply d events = do
   observer_output net (rounds net fresh events)
 
 -- the number of a refusal, or 0
-abbrev pub refusal_or0 : Wrote → ℕ
-refusal_or0 (Wrote.Bytes n) = 0
-refusal_or0 (Wrote.Refused n) = n
+abbrev pub refusal_or0 : Reply ℕ → ℕ
+refusal_or0 (value n) = 0
+refusal_or0 (refusal n) = n

@@ -5,13 +5,12 @@ use native.Mathlib.Omega.{arith}
 use borrow.Author.Rules.{rules, sfits_of}
 use mir.Syntax.{w64}
 use mir.Facts.{to_z_pos, to_z-of_z}
-use Rattle.codec.specs.declared.WroteBoth.{WroteBoth}
 use Rattle.host.specs.Numbers.{BothCountable, wrote_both_number}
 use Rattle.host.proofs.both_number.Statement.{statement}
 use Rattle.host.proofs.both_number.Tie as tie
 
 small : (c : tie.In-Bytes) → c.in-Bytes.description * 2 ^ 32 + c.in-Bytes.state < 2 ^ 63
-small c = subst (λ (w : WroteBoth). BothCountable w) c.in-Bytes.is c.requires
+small c = subst (λ (w : Reply (ℕ × ℕ)). BothCountable w) c.in-Bytes.is c.requires
 
 enum-known-wrote : tie.Need-enum_known-wrote
 enum-known-wrote c = search rules

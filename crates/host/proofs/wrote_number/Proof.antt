@@ -4,13 +4,12 @@ use mathlib.Core.Path.{sym, ap, ◌∙◌, subst}
 use borrow.Author.Rules.{rules, sfits_of}
 use mir.Syntax.{w64}
 use mir.Facts.{to_z_pos, to_z-of_z}
-use Rattle.codec.specs.declared.Wrote.{Wrote}
 use Rattle.host.specs.Numbers.{Countable, wrote_number}
 use Rattle.host.proofs.wrote_number.Statement.{statement}
 use Rattle.host.proofs.wrote_number.Tie as tie
 
 small : (c : tie.In-Bytes) → c.in-Bytes.count < 2 ^ 63
-small c = subst (λ (w : Wrote). Countable w) c.in-Bytes.is c.requires
+small c = subst (λ (w : Reply ℕ). Countable w) c.in-Bytes.is c.requires
 
 enum-known-wrote : tie.Need-enum_known-wrote
 enum-known-wrote c = search rules

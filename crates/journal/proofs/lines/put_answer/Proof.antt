@@ -2,7 +2,6 @@
 use mathlib.Core.Path.{ap, ◌∙◌}
 use borrow.Author.Rules.{rules}
 use Rattle.codec.proofs.Walk.{walked-length}
-use Rattle.net.specs.declared.Answer.TheVariants.{Given}
 use Rattle.journal.proofs.Putting.{answer-room, answer-walked}
 use Rattle.journal.proofs.lines.put_answer.Statement.{statement}
 use Rattle.journal.proofs.lines.put_answer.Tie as tie
@@ -18,14 +17,14 @@ enum_told c = search rules
 
 put-numbered-requires : tie.Need-put_numbered-requires
 put-numbered-requires c κs =
-    answer-room (c.in-Given.is ∙ ap Given c.in-Allow.is) (begun c.before.before.before.before).requires
+    answer-room (c.in-Given.is ∙ ap value c.in-Allow.is) (begun c.before.before.before.before).requires
 
 enum-known-verdict : tie.Need-enum_known-verdict
 enum-known-verdict c = search rules
 
 put-numbered-requires-2 : tie.Need-put_numbered-requires-in-Hold
 put-numbered-requires-2 c κs =
-    answer-room (c.in-Given.is ∙ ap Given c.in-Hold.is) (begun c.before.before.before.before).requires
+    answer-room (c.in-Given.is ∙ ap value c.in-Hold.is) (begun c.before.before.before.before).requires
 
 enum-known-answer-2 : tie.Need-enum_known-answer-in-Refused-1
 enum-known-answer-2 c = search rules
@@ -36,14 +35,14 @@ put-numbered-requires-3 c κs =
 
 returns : tie.Need-returns-in-Allow
 returns c =
-    answer-walked (c.in-Given.is ∙ ap Given c.in-Allow.is) c.put_numbered.ensures
+    answer-walked (c.in-Given.is ∙ ap value c.in-Allow.is) c.put_numbered.ensures
 
 same_length : tie.Need-shape_of-out-in-Allow
 same_length c = walked-length (returns c)
 
 returns-2 : tie.Need-returns-in-Hold
 returns-2 c =
-    answer-walked (c.in-Given.is ∙ ap Given c.in-Hold.is) c.put_numbered-in-Hold.ensures
+    answer-walked (c.in-Given.is ∙ ap value c.in-Hold.is) c.put_numbered-in-Hold.ensures
 
 same-length-2 : tie.Need-shape_of-out-in-Hold
 same-length-2 c = walked-length (returns-2 c)
