@@ -11,7 +11,7 @@ pub use put::put_number;
 pub use refusals::Refusal;
 pub use rising::read_place;
 
-// A byte as a number that can stand for a position.
+// A byte as a number that can stand for a position; docs/REFERENCE.md offers it by this name.
 pub fn wide(byte: u8) -> usize
     ensures { result ≡ byte }
 {

@@ -4,6 +4,7 @@ ghost use Rattle.codec.specs.Walk.{number_end, put_at};
 
 // Measures a number at the position or writes it there, and answers the position after it, or the same
 // one if no position is so large. It writes nothing if there is no room for all of the number's bytes.
+// `writing` is a flag and no type: the clauses `put_at writing` here and `Walked writing` above speak of both.
 #[tactic(auto, using(crate::proofs::Walk::told), unfolding(crate::specs::Walk::put_at))]
 pub fn put_number(out: &mut [u8], at: usize, number: u32, writing: bool) -> usize
     ensures position { result ≡ number_end at number }
