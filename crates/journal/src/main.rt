@@ -90,7 +90,11 @@ fn describe_long(
     }
     let refused = opening::refuse_long(space, start, out);
     let all = streams::skip(rt, space, beyond)?;
-    let used = if all { refused } else { opening::cut_short(out) };
+    let used = if all {
+        refused
+    } else {
+        opening::cut_short(out)
+    };
     streams::write_out(rt, out, used)
 }
 

@@ -1,6 +1,5 @@
 -- Each way out is one law of `Passed`.
-use Rattle.std.proofs.Common.{◌+◌, ◌≤◌, arith, length}
-use Rattle.journal.specs.Lines.{longest_line}
+use Rattle.std.proofs.Common.{arith}
 use Rattle.journal.proofs.Putting.{refused-length, walked-within}
 use Rattle.journal.proofs.Stepping.{formed}
 use Rattle.journal.proofs.Passed.{going_more, going-ended}

@@ -9,4 +9,4 @@ returns-clause-within c = (refused-prints 1 c.requires c.put_refusal.ensures).wi
 pub returns-clause-printed : goal.returns-clause-printed
 returns-clause-printed c =
     λ seen rest start size sized less.
-        (refused-prints 1 c.requires c.put_refusal.ensures).are ∙ sym (printed-short (seen ++ rest) (drop start seen ++ rest) size (sized.read rest) less)
+    (refused-prints 1 c.requires c.put_refusal.ensures).are ∙ sym (printed-short (seen ++ rest) (drop start seen ++ rest) size (sized.read rest) less)

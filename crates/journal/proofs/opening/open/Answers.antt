@@ -22,5 +22,5 @@ returns-in-Err-clause-starts c = (refused-prints (number c.in-Err.refusal) c.req
 pub returns-in-Err-clause-opened : goal.returns-in-Err-clause-opened
 returns-in-Err-clause-opened c =
     λ size e sized rest.
-        (refused-prints (number c.in-Err.refusal) c.requires.out c.put_refusal.ensures).are
-        ∙ sym (printed-described sized rest _ e c.requires.end _ (begun-refused _ _ (sym c.in-Err.ensures)))
+    (refused-prints (number c.in-Err.refusal) c.requires.out c.put_refusal.ensures).are
+    ∙ sym (printed-described sized rest _ e c.requires.end _ (begun-refused _ _ (sym c.in-Err.ensures)))

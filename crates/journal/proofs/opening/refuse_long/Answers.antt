@@ -24,5 +24,5 @@ returns-in-Err-clause-printed c =
     let from = c.args.start in
     let all : take (length seen - from) (drop from seen) ≡ drop from seen = take_all (length seen - from) (drop from seen) (simp length-drop (omega arith)) in
     λ rest size sized beyond there.
-        (refused-prints (number c.in-Err.refusal) c.requires.out c.put_refusal.ensures).are
-        ∙ sym (printed-long sized rest (simp length-drop (omega (arith, c.requires.seen))) beyond there _ (sym (ap description_read all) ∙ sym c.in-Err.ensures))
+    (refused-prints (number c.in-Err.refusal) c.requires.out c.put_refusal.ensures).are
+    ∙ sym (printed-long sized rest (simp length-drop (omega (arith, c.requires.seen))) beyond there _ (sym (ap description_read all) ∙ sym c.in-Err.ensures))
