@@ -7,9 +7,11 @@ use native.Mathlib.Omega.{arith}
 use lib.ListN.{length, take, drop, get_or, length-append, length-drop}
 use Rattle.theory.specs.Nets as Theory
 use Rattle.theory.specs.Recording.{State}
+use Rattle.theory.specs.Replies.{Reply}
 use Rattle.codec.specs.Walk.{Walked}
 use Rattle.codec.proofs.Walk.{walked-length}
 use Rattle.net.specs.declared.Net.{Net}
+use Rattle.net.specs.declared.Verdict.{Verdict}
 use Rattle.net.specs.View.{net_of}
 use Rattle.steps.specs.Totals.{unplaced_numbers}
 use Rattle.journal.specs.declared.input.Next.TheVariants.{Number, IllFormed}

@@ -1,12 +1,10 @@
 -- What is printed, by what the input begins with; a refusal that is put out.
 use Prim.Native.Nat.{ℕ, ◌+◌, ◌-◌, ◌≤◌, ◌<◌}
-use mathlib.Core.Path.{◌≡◌, sym, ap, ◌∙◌}
+use mathlib.Core.Path.{◌≡◌, refl, sym, ap, ◌∙◌}
 use mathlib.Core.Bool.{true}
 use mathlib.Core.List.{List, [], ◌++◌, append-nil}
-use mathlib.Core.Logic.{◌⊎◌, inl, inr}
 use native.Mathlib.Omega.{arith}
 use borrow.Author.Tests.{le-leb, lt-leb}
-use denote.Enum.Declared.{tag_of}
 use lib.ListN.{length, take, drop, length-append, length-drop}
 use lib.Seq.{take-append-le, drop-append-le, take-append-add, drop-drop}
 use Rattle.theory.specs.Replies.{Reply, value, refusal}
@@ -22,7 +20,6 @@ use Rattle.journal.specs.declared.input.Next.{Next}
 use Rattle.journal.specs.Lines.{refused_bytes, longest_line}
 use Rattle.journal.specs.Printed.{whole, opening, printed_from, printed}
 use Rattle.journal.specs.Passing.{Tells, Sized}
-use Rattle.journal.specs.contracts.input.Next.{the_type}
 use Rattle.journal.proofs.Putting.{refused-length, walked-within, walked-take}
 
 -- ---- all that is printed
@@ -66,12 +63,11 @@ module _ {seen : List ℕ} {start size : ℕ} (sized : Sized seen start size) (r
       ∙ rw (described, longer-read d (take more rest) long, e)
 
 -- what is seen is all, or enough to tell that there is no number
-pub none-printed : (seen rest : List ℕ) (r : Next) → (tag_of the_type r ≡ 1) ⊎ (tag_of the_type r ≡ 2) → Tells seen 0 r
+pub none-printed : (seen rest : List ℕ) (r : Next) → ((n next : ℕ) → r ≡ Next.Number n next → ⊥) → Tells seen 0 r
     → (length seen < longest_number → rest ≡ []) → printed (seen ++ rest) ≡ refused_bytes 1
-none-printed seen rest (Next.Number n next) (inl e) tells all = absurd (let z : ⊥ = omega arith in z)
-none-printed seen rest (Next.Number n next) (inr e) tells all = absurd (let z : ⊥ = omega arith in z)
-none-printed seen rest Next.IllFormed e tells all = printed-none (seen ++ rest) (tells.1 rest)
-none-printed seen rest Next.Short e tells all =
+none-printed seen rest (Next.Number n next) none tells all = absurd (none n next refl)
+none-printed seen rest Next.IllFormed none tells all = printed-none (seen ++ rest) (tells.1 rest)
+none-printed seen rest Next.Short none tells all =
     rw (all tells.0, append-nil seen) (printed-none seen tells.1)
 
 -- none is read from so many bytes

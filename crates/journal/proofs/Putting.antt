@@ -8,10 +8,12 @@ use borrow.Author.Tests.{lt-ltb, le-ltb}
 use lib.Dec.{ltb}
 use lib.ListN.{length, get_or, set, take, drop, length-append}
 use lib.Seq.{sets-eq, take_at, length-take-le}
+use Rattle.theory.specs.Replies.{Reply, value, refusal}
 use Rattle.codec.specs.Joined.{joined}
 use Rattle.codec.specs.Walk.{wrote, Room, Walked}
 use Rattle.codec.proofs.Joined.{listed-get_or}
 use Rattle.codec.proofs.Walk.{room-first, room_next, walked-length, walked_both}
+use Rattle.net.specs.declared.Verdict.{Verdict}
 use Rattle.net.specs.declared.Verdict.TheVariants.{Allow, Hold}
 use Rattle.journal.specs.Lines.{digits, decimal, space, answer_bytes, spaced, line_bytes, refused_bytes, longest_line}
 

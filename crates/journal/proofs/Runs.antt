@@ -13,6 +13,7 @@ use Rattle.numbers.proofs.Number.{form-length-bounds}
 use Rattle.codec.specs.Reader.{Result, ok, no, number}
 use Rattle.codec.proofs.Inverse.{number-back}
 use Rattle.codec.proofs.Joined.{joined-cong}
+use Rattle.net.specs.declared.Verdict.{Verdict}
 use Rattle.net.specs.Answers.{answer_of}
 use Rattle.journal.specs.Lines.{space, decimal, line_bytes, refused_bytes}
 use Rattle.journal.specs.Printed.{kept_state, state_after, line, on_event, lines_up_to, lines}

@@ -8,17 +8,19 @@ use borrow.Author.Tests.{lt-ltb}
 use lib.ListN.{length, get_or}
 use Rattle.theory.specs.Nets.{share, less}
 use Rattle.theory.specs.Recording.{State, Alike, bound, settled, none_placed, fresh, next, unplaced}
-use Rattle.theory.specs.Replies.{value, refusal}
+use Rattle.theory.specs.Replies.{Reply, value, refusal, ◌>>=◌}
 use Rattle.theory.specs.Answers.{ask, recorded, judged}
+use Rattle.theory.proofs.Answers.{clash}
 use Rattle.theory.proofs.Alike.{unplaced-alike}
-use Rattle.codec.proofs.Joined.{first-at}
+use Rattle.codec.proofs.Joined.{first-at, length-listed}
 use Rattle.net.specs.declared.Net.{Net}
-use Rattle.net.specs.declared.Observed.{Observed}
+use Rattle.net.specs.declared.Observer.{Observer}
+use Rattle.net.specs.declared.Verdict.{Verdict}
 use Rattle.net.specs.Bounds.{most_places, most_groups}
 use Rattle.net.specs.View.{at64, event_row, net_of, rules_of}
 use Rattle.net.specs.Check.{counted, net_check}
 use Rattle.net.specs.declared.Edition.TheVariants.{First}
-use Rattle.net.specs.Observers.{observer_of, observed_of, fresh_observer}
+use Rattle.net.specs.Observers.{observer_of, fresh_observer}
 use Rattle.net.proofs.Check.{WellFormed, well-formed}
 use Rattle.net.specs.Answers.{answer_of}
 use Rattle.net.proofs.Copying.{event-row-at}
@@ -29,9 +31,11 @@ use Rattle.steps.proofs.Unplaced.{Totals, unplaced-are}
 use Rattle.steps.proofs.Meaning.{asked_of, Arrays, Rows, unplaced-is, step-asks, step-arrays}
 use Rattle.limits.specs.Weighing.{tables_weighed}
 use Rattle.limits.proofs.Weighed.{net-judged}
+use Rattle.description.specs.Read.{description_read}
+use Rattle.description.proofs.Answered.{read-checked}
 use Rattle.journal.specs.Lines.{line_bytes}
 use Rattle.journal.specs.Printed.{line, lines}
-use Rattle.journal.specs.Passing.{state_in, Running, Steps}
+use Rattle.journal.specs.Passing.{state_in, Running, begun, Steps}
 use Rattle.journal.proofs.Runs.{line_same, lines-alike}
 
 same-state : (net : Net) (s : State) → Alike (net_of net) s s
@@ -39,30 +43,56 @@ same-state net s = record { estimates = λ p l. refl; lows = λ i l. refl; highs
 
 -- ---- the start
 
-module _ (net : Net) (good : net_check net ≡ value tt) {observed : Observed} (e : observed ≡ observed_of (fresh_observer net)) where
+-- what is read of a description
+module _ (d : List ℕ) where
+  abbrev start : Net → Reply (Net × Observer)
+  start net = fresh_observer net >>= λ observer. value (net, observer)
+
+  pub begun-net : (begin : Net × Observer) → begun d ≡ value begin → (description_read d ≡ value begin.0) × (fresh_observer begin.0 ≡ value begin.1)
+  begun-net begin e = go (description_read d) refl e
+    where
+      started : (net : Net) (r : Reply Observer) → description_read d ≡ value net → fresh_observer net ≡ r → (r >>= λ observer. value (net, observer)) ≡ value begin
+          → (description_read d ≡ value begin.0) × (fresh_observer begin.0 ≡ value begin.1)
+      started net (value observer) read is e = let same : ◌≡◌ {A = Net × Observer} (net, observer) begin = cc in rw (← same) (read, is)
+      started net (refusal n) read is e = clash (cc)
+
+      go : (r : Reply Net) → description_read d ≡ r → (r >>= start) ≡ value begin
+          → (description_read d ≡ value begin.0) × (fresh_observer begin.0 ≡ value begin.1)
+      go (value net) read e = started net (fresh_observer net) read refl e
+      go (refusal n) read e = clash (cc)
+
+  -- a net that is read meets no question, so that it is the description that is refused
+  pub begun-refused : (n : ℕ) → begun d ≡ refusal n → description_read d ≡ refusal n
+  unfolding fresh_observer
+  begun-refused n e = go (description_read d) refl e
+    where
+      go : (r : Reply Net) → description_read d ≡ r → (r >>= start) ≡ refusal n → r ≡ refusal n
+      go (value net) read e = clash (let begins = rw (read-checked d net read) at e in cc)
+      go (refusal m) read e = let same : m ≡ n = cc in ap refusal same
+
+module _ (net : Net) (good : net_check net ≡ value tt) {observer : Observer} (e : fresh_observer net ≡ value observer) where
   fine : WellFormed net
   fine = well-formed net good
 
-  observer-is : observed.observer ≡ observer_of First net (fresh (net_of net))
+  observer-is : observer ≡ observer_of First net (fresh (net_of net))
   unfolding fresh_observer
-  observer-is = ap (λ (o : Observed). o.observer) e ∙ rw good
+  observer-is = let same = rw good at e in cc
 
-  estimates-are : (p : ℕ) → p < net.places → get_or observed.observer.estimates p 0 ≡ (fresh (net_of net)).estimate p
+  estimates-are : (p : ℕ) → p < net.places → get_or observer.estimates p 0 ≡ (fresh (net_of net)).estimate p
   unfolding observer_of
   estimates-are p l = rw observer-is (first-at most_places net.places (fresh (net_of net)).estimate fine.sized.places p l)
 
-  remainders-are : (i : ℕ) → i < net.groups.number → get_or observed.observer.remainders i 0 ≡ (fresh (net_of net)).high (suc i)
+  remainders-are : (i : ℕ) → i < net.groups.number → get_or observer.remainders i 0 ≡ (fresh (net_of net)).high (suc i)
   unfolding observer_of
   remainders-are i l = rw observer-is (first-at most_groups net.groups.number (λ j. (fresh (net_of net)).high (suc j)) fine.sized.groups i l)
 
-  pub fresh-running : length observed.observer.estimates ≡ most_places → length observed.observer.remainders ≡ most_groups
-      → Running net observed.observer.estimates observed.observer.remainders
-  unfolding fresh settled none_placed share less
-  fresh-running long wide =
+  pub fresh-running : Running net observer.estimates observer.remainders
+  unfolding observer_of fresh settled none_placed share less
+  fresh-running =
       record {
         good = good;
-        long = long;
-        wide = wide;
+        long = ap (λ (o : Observer). length o.estimates) observer-is ∙ length-listed most_places _;
+        wide = ap (λ (o : Observer). length o.remainders) observer-is ∙ length-listed most_groups _;
         small = λ i l.
             let one : suc i - 1 ≡ i = omega arith in
             let count : get_or net.groups.counts (suc i - 1) 0 ≤ bound = rw one (fine.valued.counts.small i (omega (arith, fine.sized.groups))) in
@@ -70,12 +100,12 @@ module _ (net : Net) (good : net_check net ≡ value tt) {observed : Observed} (
       }
 
   pub fresh_lines : (bytes : List ℕ)
-      → lines (net_of net) (fresh (net_of net)) bytes ≡ lines (net_of net) (state_in observed.observer.estimates observed.observer.remainders) bytes
+      → lines (net_of net) (fresh (net_of net)) bytes ≡ lines (net_of net) (state_in observer.estimates observer.remainders) bytes
   unfolding fresh settled none_placed
   fresh_lines bytes = sym (lines-alike (net_of net) (record { estimates = estimates-are; lows = λ i l. at i ∙ remainders-are i l; highs = λ i l. at i ∙ remainders-are i l }) bytes)
     where
-      at : (i : ℕ) → get_or observed.observer.remainders (suc i - 1) 0 ≡ get_or observed.observer.remainders i 0
-      at i = ap (λ (k : ℕ). get_or observed.observer.remainders k 0) (let one : suc i - 1 ≡ i = omega arith in one)
+      at : (i : ℕ) → get_or observer.remainders (suc i - 1) 0 ≡ get_or observer.remainders i 0
+      at i = ap (λ (k : ℕ). get_or observer.remainders k 0) (let one : suc i - 1 ≡ i = omega arith in one)
 
 -- ---- one event
 

@@ -1,7 +1,9 @@
 -- What the journal prints, line by line, as bytes (01, "The pool of three": "A line has the event, the word (allow, hold, refused), limit or
 -- refusal number or 0, the estimates, the unplaced numbers, one space between, newline.").
 use Rattle.std.specs.Prelude.{ℕ, zero, suc, ◌+◌, ◌/◌, ◌%◌, cond, List, [], ◌∷◌, ◌++◌, ltb}
+use Rattle.theory.specs.Replies.{Reply, value, refusal}
 use Rattle.codec.specs.Joined.{joined}
+use Rattle.net.specs.declared.Verdict.{Verdict}
 use Rattle.net.specs.declared.Verdict.TheVariants.{Allow, Hold}
 
 -- ---- numbers

@@ -1,20 +1,21 @@
 -- What the functions behind the journal say: what the bytes seen so far tell, and that what they put out is what is printed.
-use Rattle.std.specs.Prelude.{ℕ, ◌+◌, ◌-◌, ◌≤◌, ◌<◌, ◌≡◌, List, [], ◌++◌, length, take, drop, get_or}
-use Rattle.theory.specs.Replies.{value}
+use Rattle.std.specs.Prelude.{ℕ, ◌+◌, ◌-◌, ◌≤◌, ◌<◌, ◌≡◌, List, [], ◌++◌, length, take, drop, get_or, Result, Ok, Err}
+use Rattle.theory.specs.Replies.{Reply, value, ◌>>=◌}
 use Rattle.theory.specs.Recording.{State, Alike, bound}
 use Rattle.theory.specs.Answers.{judged}
 use Rattle.numbers.specs.Number.{longest_number}
 use Rattle.codec.specs.Reader.{ok, no, number}
 use Rattle.net.specs.declared.Net.{Net}
 use Rattle.net.specs.declared.Observer.{Observer}
+use Rattle.net.specs.declared.Verdict.{Verdict}
 use Rattle.net.specs.Bounds.{most_places, most_groups}
 use Rattle.net.specs.View.{net_of}
 use Rattle.net.specs.Check.{net_check}
+use Rattle.net.specs.Observers.{fresh_observer}
 use Rattle.net.specs.Answers.{answer_of}
+use Rattle.description.specs.Read.{description_read}
 use Rattle.journal.specs.declared.input.Next.{Next}
 use Rattle.journal.specs.declared.input.Next.TheVariants.{Number, IllFormed, Short}
-use Rattle.journal.specs.declared.opening.Located.{Located}
-use Rattle.journal.specs.declared.opening.Opened.{Opened}
 use Rattle.journal.specs.declared.events.Stop.{Stop}
 use Rattle.journal.specs.declared.events.Pass.{Pass}
 use Rattle.journal.specs.Printed.{state_after, lines, printed}
@@ -48,20 +49,29 @@ pub record Sized (seen : List ℕ) (start size : ℕ) : Type 0 where
   pub within : start ≤ length seen
   pub read : (rest : List ℕ) → number (seen ++ rest) ≡ ok size (drop start seen ++ rest)
 
--- the size, or all that is printed: no input goes on after less than five bytes that tell no number
-abbrev pub Locates : List ℕ → List ℕ → Located → Type 0
-Locates seen out (Located.At start size) = (start ≤ longest_number) × Sized seen start size
-Locates seen out (Located.Refused used) =
+-- where the description starts and its size, or all that is printed: no input goes on after less than five bytes that tell no number
+abbrev pub Locates : List ℕ → List ℕ → Result (ℕ × ℕ) ℕ → Type 0
+Locates seen out (Ok located) = (located.0 ≤ longest_number) × Sized seen located.0 located.1
+Locates seen out (Err used) =
     (used ≤ length out) × ((rest : List ℕ) → (length seen < longest_number → rest ≡ []) → take used out ≡ printed (seen ++ rest))
 
--- the net and the lines that are left to print, or all that is printed
-abbrev pub OpensAs : Reply Unit → List ℕ → ℕ → Net → Observer → List ℕ → ℕ → Type 0
-OpensAs (value tt) seen end net observer out used =
-    (rest : List ℕ) → printed (seen ++ rest) ≡ lines (net_of net) (state_in observer.estimates observer.remainders) (drop end seen ++ rest)
-OpensAs (refusal n) seen end net observer out used = (rest : List ℕ) → take used out ≡ printed (seen ++ rest)
+-- the net that the bytes describe, and its fresh observer
+abbrev pub begun : List ℕ → Reply (Net × Observer)
+begun d = do
+  net ← description_read d
+  observer ← fresh_observer net
+  value (net, observer)
 
-abbrev pub Opens : List ℕ → ℕ → List ℕ → Opened → Type 0
-Opens seen end out r = OpensAs r.checked seen end r.net r.observer out r.used
+-- arrays that a run of the net has, or bytes that were put out
+abbrev pub Starts : List ℕ → Result (Net × Observer) ℕ → Type 0
+Starts out (Ok opened) = Running opened.0 opened.1.estimates opened.1.remainders
+Starts out (Err used) = used ≤ length out
+
+-- the net and the lines that are left to print, or all that is printed
+abbrev pub Opens : List ℕ → ℕ → List ℕ → Result (Net × Observer) ℕ → Type 0
+Opens seen end out (Ok opened) =
+    (rest : List ℕ) → printed (seen ++ rest) ≡ lines (net_of opened.0) (state_in opened.1.estimates opened.1.remainders) (drop end seen ++ rest)
+Opens seen end out (Err used) = (rest : List ℕ) → take used out ≡ printed (seen ++ rest)
 
 -- ---- events
 

@@ -3,20 +3,22 @@ ghost use Rattle.std.specs.Prelude.{ℕ, ◌≤◌, ◌≡◌, List, length, tak
 ghost use Rattle.theory.specs.Nets as Theory;
 ghost use Rattle.theory.specs.Recording.{State};
 ghost use Rattle.codec.specs.Reader.{no, number};
+ghost use Rattle.codec.specs.Refusals.{reply};
 ghost use Rattle.journal.specs.Lines.{longest_line};
 ghost use Rattle.journal.specs.Printed.{lines};
 ghost use Rattle.journal.specs.Passing.{Running, Steps, Passes, Unfinished};
 
 use crate::input::Next;
 use crate::{input, lines};
-use codec::refusals;
-use net::{Answer, Checked, Estimates, Net, Remainders};
+use codec::Refusal;
+use net::{Estimates, Net, Remainders, Verdict};
 
 // No line is longer.
 const LONGEST_LINE: usize = 1086;
 
 // Why a pass stops: the output has no room for another line; more bytes are needed to tell the next
-// number; or no stored number stands there, and that is put out.
+// number; or no stored number stands there, and that is put out. Three outcomes, each with its name:
+// no Option or Result says them.
 #[derive(Clone, Copy)]
 pub enum Stop {
     Full,
@@ -52,8 +54,7 @@ pub fn pass_events(
     let mut used: usize = 0;
     // a while: the position moves by one to five bytes a turn, and the room for lines ends the turns
     while LONGEST_LINE <= out.len() - used {
-        let next = input::next_number(seen, at);
-        match next {
+        match input::next_number(seen, at) {
             Next::Short => {
                 return Pass {
                     stop: Stop::Short,
@@ -62,7 +63,7 @@ pub fn pass_events(
                 };
             }
             Next::IllFormed => {
-                let end = lines::put_refusal(out, used, refusals::ILL_FORMED);
+                let end = lines::put_refusal(out, used, Refusal::IllFormed);
                 return Pass {
                     stop: Stop::Ended,
                     at,
@@ -104,17 +105,17 @@ fn step_event(
     event: u32,
     estimates: &mut Estimates,
     remainders: &mut Remainders,
-) -> Answer
+) -> Result<Verdict, Refusal>
     requires { Running net estimates.old remainders.old }
-    ensures { Steps net event estimates.old remainders.old estimates.new remainders.new result }
+    ensures { Steps net event estimates.old remainders.old estimates.new remainders.new (reply result) }
 {
     let event = event as usize;
     if !net::counted(net.events, event) {
-        return Answer::Refused(refusals::NO_EVENT);
+        return Err(Refusal::NoEvent);
     }
     let takes = net::event_row(&net.takes, event - 1);
     let gives = net::event_row(&net.gives, event - 1);
-    let checked = steps::step(
+    steps::step(
         net.places,
         net.groups.number,
         &net.groups.homes,
@@ -122,10 +123,7 @@ fn step_event(
         &gives,
         estimates,
         remainders,
-    );
-    if let Checked::Refused(refusal) = checked {
-        return Answer::Refused(refusal);
-    }
+    )?;
     limits::weigh_tables(
         net.places,
         net.groups.number,
@@ -151,5 +149,5 @@ pub fn leave(left: usize, out: &mut [u8]) -> usize
     if left == 0 {
         return 0;
     }
-    lines::put_refusal(out, 0, refusals::ILL_FORMED)
+    lines::put_refusal(out, 0, Refusal::IllFormed)
 }

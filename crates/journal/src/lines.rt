@@ -1,9 +1,11 @@
 // Lines as bytes (specs/Lines.antt), put into the output at a position.
 ghost use Rattle.std.specs.Prelude.{◌+◌, ◌≤◌, true, [], ◌∷◌, ◌++◌, length, get_or};
+ghost use Rattle.codec.specs.Refusals.{number, reply};
 ghost use Rattle.codec.specs.Walk.{Room, Walked};
 ghost use Rattle.journal.specs.Lines.{decimal, space, answer_bytes, spaced, line_bytes, refused_bytes, longest_line};
 
-use net::{Answer, Estimates, Unplaced, Verdict};
+use codec::Refusal;
+use net::{Estimates, Unplaced, Verdict};
 
 // The line of an event; the position after it.
 pub fn put_line<'a>(
@@ -12,14 +14,14 @@ pub fn put_line<'a>(
     places: usize,
     groups: usize,
     event: u32,
-    answer: Answer,
+    answer: Result<Verdict, Refusal>,
     estimates: &'a Estimates,
     numbers: &'a Unplaced,
 ) -> usize
     requires room { at + longest_line ≤ length out.old }
     requires places { places ≤ 64 }
     requires groups { groups ≤ 32 }
-    ensures { Walked true out.old at (line_bytes event answer places (λ p. get_or estimates.now p 0) groups (λ i. get_or numbers.now i 0)) out.new result }
+    ensures { Walked true out.old at (line_bytes event (reply answer) places (λ p. get_or estimates.now p 0) groups (λ i. get_or numbers.now i 0)) out.new result }
 {
     let next = put_number(out, at, event);
     let next = put_answer(out, next, answer);
@@ -29,26 +31,24 @@ pub fn put_line<'a>(
 }
 
 // The ending of a journal that is refused; the position after it.
-pub fn put_refusal(out: &mut [u8], at: usize, refusal: u32) -> usize
+pub fn put_refusal(out: &mut [u8], at: usize, refusal: Refusal) -> usize
     requires { at + longest_line ≤ length out.old }
-    ensures { Walked true out.old at (refused_bytes refusal) out.new result }
+    ensures { Walked true out.old at (refused_bytes (number refusal)) out.new result }
 {
     let next = put_text(out, at, b"refused ");
-    let next = put_number(out, next, refusal);
+    let next = put_number(out, next, refusal.number());
     put_byte(out, next, b'\n')
 }
 
 // A space, the word, a space, and the limit or the refusal or 0.
-fn put_answer(out: &mut [u8], at: usize, answer: Answer) -> usize
-    requires { Room true out.old at (space ∷ answer_bytes answer) }
-    ensures { Walked true out.old at (space ∷ answer_bytes answer) out.new result }
+fn put_answer(out: &mut [u8], at: usize, answer: Result<Verdict, Refusal>) -> usize
+    requires { Room true out.old at (space ∷ answer_bytes (reply answer)) }
+    ensures { Walked true out.old at (space ∷ answer_bytes (reply answer)) out.new result }
 {
     match answer {
-        Answer::Given(verdict) => match verdict {
-            Verdict::Allow => put_numbered(out, at, b" allow ", 0),
-            Verdict::Hold(limit) => put_numbered(out, at, b" hold ", limit),
-        },
-        Answer::Refused(refusal) => put_numbered(out, at, b" refused ", refusal),
+        Ok(Verdict::Allow) => put_numbered(out, at, b" allow ", 0),
+        Ok(Verdict::Hold(limit)) => put_numbered(out, at, b" hold ", limit),
+        Err(refusal) => put_numbered(out, at, b" refused ", refusal.number()),
     }
 }
 

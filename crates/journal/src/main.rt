@@ -17,32 +17,25 @@ ghost use Rattle.journal.specs.Lines.{longest_line};
 ghost use Rattle.journal.specs.Passing.{Running};
 
 use events::Stop;
-use net::{Checked, Net, Observer};
-use opening::Located;
-use streams::{Filled, More, Skipped};
+use net::{Net, Observer};
+use streams::Failed;
 
 fn main(rt: HostRuntime) {
     // 32,768 bytes: more than the longest description has, 24,037, and its length before it
     let mut space = [0u8; 32768];
     let mut out = [0u8; 32768];
-    journal(&rt, &mut space, &mut out);
+    // a failure was told
+    let _ = journal(&rt, &mut space, &mut out);
 }
 
-fn journal(rt: &HostRuntime, space: &mut [u8], out: &mut [u8])
+fn journal(rt: &HostRuntime, space: &mut [u8], out: &mut [u8]) -> Result<(), Failed>
     requires space { longest_number + longest_description + longest_number ≤ length space.old }
     requires out { longest_line ≤ length out.old }
 {
-    let Filled::To(held) = streams::fill(rt, space, 0, numbers::LONGEST_NUMBER) else {
-        return;
-    };
-    let located = opening::locate(&space[..held], out);
-    match located {
-        Located::Refused(used) => {
-            streams::write_out(rt, out, used);
-        }
-        Located::At(start, size) => {
-            describe(rt, space, held, start, size, out);
-        }
+    let held = streams::fill(rt, space, 0, numbers::LONGEST_NUMBER)?;
+    match opening::locate(&space[..held], out) {
+        Ok((start, size)) => describe(rt, space, held, start, size, out),
+        Err(used) => streams::write_out(rt, out, used),
     }
 }
 
@@ -54,34 +47,24 @@ fn describe(
     start: usize,
     size: usize,
     out: &mut [u8],
-)
+) -> Result<(), Failed>
     requires space { longest_number + longest_description + longest_number ≤ length space.old }
     requires held { (start ≤ held) × (held ≤ length space.old) × (start ≤ longest_number) }
     requires out { longest_line ≤ length out.old }
 {
     let room = space.len() - start;
     if room < size {
-        describe_long(rt, space, held, start, size - room, out);
-        return;
+        return describe_long(rt, space, held, start, size - room, out);
     }
     let end = start + size;
-    let Filled::To(held) = streams::fill(rt, space, held, end) else {
-        return;
-    };
+    let held = streams::fill(rt, space, held, end)?;
     if held < end {
         let used = opening::cut_short(out);
-        streams::write_out(rt, out, used);
-        return;
+        return streams::write_out(rt, out, used);
     }
-    let opened = opening::open(&space[..held], start, end, out);
-    let checked = opened.checked;
-    match checked {
-        Checked::Refused(_) => {
-            streams::write_out(rt, out, opened.used);
-        }
-        Checked::Good => {
-            run(rt, opened.net, opened.observer, space, end, held, out);
-        }
+    match opening::open(&space[..held], start, end, out) {
+        Ok((net, observer)) => run(rt, net, observer, space, end, held, out),
+        Err(used) => streams::write_out(rt, out, used),
     }
 }
 
@@ -94,32 +77,25 @@ fn describe_long(
     start: usize,
     beyond: usize,
     out: &mut [u8],
-)
+) -> Result<(), Failed>
     requires space { longest_number + longest_description + longest_number ≤ length space.old }
     requires held { (held ≤ length space.old) × (start ≤ longest_number) }
     requires out { longest_line ≤ length out.old }
 {
     let room = space.len();
-    let Filled::To(held) = streams::fill(rt, space, held, room) else {
-        return;
-    };
+    let held = streams::fill(rt, space, held, room)?;
     if held < room {
         let used = opening::cut_short(out);
-        streams::write_out(rt, out, used);
-        return;
+        return streams::write_out(rt, out, used);
     }
-    let used = opening::refuse_long(space, start, out);
-    let skipped = streams::skip(rt, space, beyond);
-    match skipped {
-        Skipped::All => {
-            streams::write_out(rt, out, used);
-        }
-        Skipped::End => {
-            let used = opening::cut_short(out);
-            streams::write_out(rt, out, used);
-        }
-        Skipped::Failed => {}
-    }
+    let refused = opening::refuse_long(space, start, out);
+    let all = streams::skip(rt, space, beyond)?;
+    let used = if all {
+        refused
+    } else {
+        opening::cut_short(out)
+    };
+    streams::write_out(rt, out, used)
 }
 
 // The events from the position `start` on; the buffer holds the first `held` bytes. What was put
@@ -132,7 +108,7 @@ fn run(
     start: usize,
     held: usize,
     out: &mut [u8],
-)
+) -> Result<(), Failed>
     requires running { Running net observer.estimates observer.remainders }
     requires held { (start ≤ held) × (held ≤ length space.old) }
     requires out { longest_line ≤ length out.old }
@@ -151,34 +127,24 @@ fn run(
             &mut remainders,
             out,
         );
-        if !streams::write_out(rt, out, pass.used) {
-            return;
-        }
+        streams::write_out(rt, out, pass.used)?;
         at = pass.at;
         match pass.stop {
-            Stop::Ended => return,
+            Stop::Ended => return Ok(()),
             Stop::Full => {}
             Stop::Short => {
                 let left = end - at;
                 streams::move_down(space, at, left);
-                let more = streams::read_more(rt, space, left);
-                let More::Bytes(came) = more else {
-                    finish(rt, left, more, out);
-                    return;
-                };
+                let came = streams::read_more(rt, space, left)?;
+                if came == 0 {
+                    // the input has ended: the bytes that are left of it tell no number
+                    let used = events::leave(left, out);
+                    return streams::write_out(rt, out, used);
+                }
                 at = 0;
                 end = left + came;
             }
         }
     }
-}
-
-// The input has ended: the bytes that are left of it tell no number.
-fn finish(rt: &HostRuntime, left: usize, more: More, out: &mut [u8])
-    requires { longest_line ≤ length out.old }
-{
-    if let More::End = more {
-        let used = events::leave(left, out);
-        streams::write_out(rt, out, used);
-    }
+    Ok(())
 }

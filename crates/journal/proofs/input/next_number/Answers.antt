@@ -4,4 +4,4 @@ use Rattle.journal.proofs.Telling.{tells-number}
 use Rattle.journal.proofs.input.next_number.Goals as goal
 
 pub returns-in-Some : goal.returns-in-Some
-returns-in-Some c = tells-number _ _ _ _ (sym c.read_number-read.ensures ∙ c.in-Some.is)
+returns-in-Some c = tells-number _ _ _ _ (sym c.read_number.ensures ∙ c.in-Some.is)
