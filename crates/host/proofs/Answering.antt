@@ -1,34 +1,21 @@
--- A call that writes answers a number that an i64 holds: a count is at most the length of the lent output, which is below 2 ^ 63; and no
--- description and no state has so many bytes that the two counts of a head count do not fit.
-use Prim.Native.Nat.{ℕ, ◌<◌, ◌*◌, ◌^◌}
+-- A head count answers a number that an i64 holds: no description and no state has so many bytes that their two counts do not fit.
+use Prim.Native.Nat.{ℕ}
 use mathlib.Core.Path.{◌≡◌, refl, sym, subst}
 use mathlib.Core.Bool.{Bool, true, false, ◌&&◌}
 use mathlib.Core.List.{List}
 use native.Mathlib.Omega.{arith}
-use borrow.Author.Tests.{leb-true}
 use lib.Dec.{leb}
 use lib.ListN.{length}
 use Rattle.theory.specs.Replies.{Reply, value, refusal, ◌>>=◌, question}
 use Rattle.theory.specs.Answers.{no_room}
-use Rattle.codec.specs.Output.{wrote_of, answer, Pair, wrote_both_of, both_answer}
+use Rattle.codec.specs.Output.{Pair, wrote_both_of, both_answer}
 use Rattle.observer.specs.Bytes.{count_reply}
 use Rattle.observer.proofs.Counted.{counted-small}
-use Rattle.host.specs.Numbers.{Countable, BothCountable}
+use Rattle.host.specs.Numbers.{BothCountable}
 
-pub countable : {wrote : Reply ℕ} (room : ℕ) (o : Reply (List ℕ)) → room * 1 < 2 ^ 63 → wrote ≡ answer room o → Countable wrote
-countable room o h e = subst (λ (w : Reply ℕ). Countable w) (sym e) (go o)
-  where
-    within : (b : List ℕ) (t : Bool) → leb (length b) room ≡ t → Countable (wrote_of (question t no_room >>= λ _. value b))
-    within b true t = omega (arith, h, leb-true (length b) room t)
-    within b false t = tt
-
-    go : (o : Reply (List ℕ)) → Countable (answer room o)
-    go (value b) = within b (leb (length b) room) refl
-    go (refusal n) = tt
-
-pub both-countable : {wrote : Reply (ℕ × ℕ)} (described room : ℕ) (d s list : List ℕ) (n : ℕ) → wrote ≡ both_answer described room (count_reply d s list n)
+pub both_countable : {wrote : Reply (ℕ × ℕ)} (described room : ℕ) (d s list : List ℕ) (n : ℕ) → wrote ≡ both_answer described room (count_reply d s list n)
     → BothCountable wrote
-both-countable described room d s list n e = subst (λ (w : Reply (ℕ × ℕ)). BothCountable w) (sym e) (go (count_reply d s list n) refl)
+both_countable described room d s list n e = subst (λ (w : Reply (ℕ × ℕ)). BothCountable w) (sym e) (go (count_reply d s list n) refl)
   where
     within : (pair : Pair) → count_reply d s list n ≡ value pair → (t : Bool) → BothCountable (wrote_both_of (question t no_room >>= λ _. value pair))
     within pair u true = let small = counted-small d s list n pair u in omega (arith, small.0, small.1)

@@ -1,3 +1,3 @@
--- What the proofs of several functions use.
+-- What the proof of `host::count` uses, and what the numbers say of the answers.
 mod Answering
 pub mod Numbers

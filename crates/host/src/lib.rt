@@ -56,6 +56,7 @@ pub fn known<'a>(d: &'a [u8], s: &'a [u8]) -> i64
 // A head count of the listed places, a byte for each: writes the description with one group more and
 // the state after it, if both fit their outputs: the number of bytes of the description times 2 ^ 32,
 // and that of the state. A refusal writes nothing.
+#[tactic(auto, using(crate::proofs::Answering::both_countable))]
 pub fn count<'a>(
     d: &'a [u8],
     s: &'a [u8],

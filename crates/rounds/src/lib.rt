@@ -23,6 +23,7 @@ pub fn value_rounds<'a>(d: &'a [u8], events: &'a [u8], out: &mut [u8]) -> u32
 }
 
 // The same, told as the calls on values tell it.
+#[tactic(auto, unfolding(crate::specs::Rounds::rounds_reply))]
 fn state_after<'a>(d: &'a [u8], events: &'a [u8], out: &mut [u8]) -> Result<usize, Refusal>
     ensures answer { reply result ≡ answer (length out.old) (rounds_reply d.now events.now) }
     ensures output { out.new ≡ left out.old (rounds_reply d.now events.now) }
@@ -33,6 +34,7 @@ fn state_after<'a>(d: &'a [u8], events: &'a [u8], out: &mut [u8]) -> Result<usiz
     values::write_observer(net, observer, out)
 }
 
+#[tactic(auto, using(crate::proofs::Rounds::rounds_more, crate::proofs::Rounds::rounds_none))]
 fn after_events(net: Net, observer: Observer, events: &[u8]) -> Observer
     ensures { result ≡ rounds net observer events.now }
 {
@@ -43,6 +45,7 @@ fn after_events(net: Net, observer: Observer, events: &[u8]) -> Observer
     current
 }
 
+#[tactic(auto, unfolding(crate::specs::Rounds::round))]
 fn after_event(net: Net, observer: Observer, event: u32) -> Observer
     ensures { result ≡ round net observer event }
 {
