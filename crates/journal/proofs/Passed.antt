@@ -1,6 +1,6 @@
 -- A pass over the events that are seen: what is put out and what is left to print.
 use Prim.Native.Nat.{ℕ, ◌+◌, ◌≤◌}
-use mathlib.Core.Path.{◌≡◌, refl, sym, ap, ◌∙◌}
+use mathlib.Core.Path.{◌≡◌, sym, ap, ◌∙◌}
 use mathlib.Core.Bool.{true}
 use mathlib.Core.List.{List, [], ◌∷◌, ◌++◌, append_assoc, append-nil}
 use native.Mathlib.Omega.{arith}
@@ -15,7 +15,7 @@ use Rattle.net.specs.declared.Verdict.{Verdict}
 use Rattle.net.specs.View.{net_of}
 use Rattle.steps.specs.Totals.{unplaced_numbers}
 use Rattle.journal.specs.declared.input.Next.TheVariants.{Number, IllFormed}
-use Rattle.journal.specs.declared.events.Stop.TheVariants.{Full, Short, Ended}
+use Rattle.journal.specs.declared.events.Stop.TheVariants.{Ended}
 use Rattle.journal.specs.Lines.{line_bytes, refused_bytes, longest_line}
 use Rattle.journal.specs.Printed.{lines}
 use Rattle.journal.specs.Passing.{Tells, state_in, Running, Steps, Passes}
@@ -32,10 +32,6 @@ pub record Going (net : Net) (seen : List ℕ) (from : ℕ) (estimates₀ remain
   pub are : (rest : List ℕ)
       → lines (net_of net) (state_in estimates₀ remainders₀) (drop from seen ++ rest)
       ≡ take used out ++ lines (net_of net) (state_in estimates remainders) (drop at seen ++ rest)
-
-pub going-none : {net : Net} (seen : List ℕ) (from : ℕ) {estimates remainders : List ℕ} (out : List ℕ) → from ≤ length seen → Running net estimates remainders
-    → Going net seen from estimates remainders out estimates remainders out from 0
-going-none seen from out within running = record { within = within; fits = omega arith; long = refl; running = running; are = λ rest. refl }
 
 module _ {net : Net} {seen : List ℕ} {from : ℕ} {estimates₀ remainders₀ out₀ estimates remainders out : List ℕ} {at used : ℕ}
     (going : Going net seen from estimates₀ remainders₀ out₀ estimates remainders out at used) where
@@ -70,12 +66,6 @@ module _ {net : Net} {seen : List ℕ} {from : ℕ} {estimates₀ remainders₀ 
       }
 
   -- the pass ends here
-  pub going-full : Passes net seen from estimates₀ remainders₀ estimates remainders out (record { stop = Full; at = at; used = used })
-  going-full = record { running = going.running; are = going.are }
-
-  pub going-short : Passes net seen from estimates₀ remainders₀ estimates remainders out (record { stop = Short; at = at; used = used })
-  going-short = record { running = going.running; are = going.are }
-
   pub going-ended : used + longest_line ≤ length out → Tells seen at IllFormed → {put : List ℕ} {end : ℕ} → Walked true out used (refused_bytes 1) put end
       → Passes net seen from estimates₀ remainders₀ estimates remainders put (record { stop = Ended; at = at; used = end })
   going-ended room tells {put} {end} walked =

@@ -1,6 +1,6 @@
 -- Bytes put one after the other; the digits of a number; how long a line can be.
 use Prim.Native.Nat.{ℕ, zero, suc, ◌+◌, ◌*◌, ◌/◌, ◌%◌, ◌^◌, ◌≤◌, ◌<◌}
-use mathlib.Core.Path.{◌≡◌, refl, ap, subst, subst⁻¹}
+use mathlib.Core.Path.{◌≡◌, refl, ap}
 use mathlib.Core.List.{List, [], ◌∷◌, ◌++◌}
 use mathlib.Core.Bool.{Bool, true, false, cond}
 use native.Mathlib.Omega.{arith}
@@ -123,14 +123,6 @@ module _ {out : List ℕ} {at : ℕ} (long : at + longest_line ≤ length out) (
 
   pub refused-room : (n : ℕ) → Room true out at (refused_bytes n)
   refused-room n = record { counted = omega (arith, refused-length n); inside = λ on. omega (arith, refused-length n) }
-
--- the same answer
-module _ {out : List ℕ} {at : ℕ} {a b : Reply Verdict} (e : a ≡ b) where
-  pub answer-room : Room true out at (space ∷ answer_bytes a) → Room true out at (space ∷ answer_bytes b)
-  answer-room r = subst (λ (a : Reply Verdict). Room true out at (space ∷ answer_bytes a)) e r
-
-  pub answer-walked : {after : List ℕ} {next : ℕ} → Walked true out at (space ∷ answer_bytes b) after next → Walked true out at (space ∷ answer_bytes a) after next
-  answer-walked {after} {next} w = subst⁻¹ (λ (a : Reply Verdict). Walked true out at (space ∷ answer_bytes a) after next) e w
 
 -- ---- a text, byte by byte
 

@@ -28,9 +28,6 @@ module _ (seen : List ℕ) (at : ℕ) where
   told_none rest enough e =
       number-extended (drop at seen) rest (simp length-drop (omega arith)) ∙ ap (extended rest) (number-none seen at e)
 
-  pub tells-none : at + longest_number ≤ length seen → number_at seen at ≡ None → Tells seen at Next.IllFormed
-  tells-none enough e = (omega arith, λ rest. told_none rest enough e)
-
 -- a number at the front has at most five bytes
 pub front-short : (seen : List ℕ) (n next : ℕ) → Tells seen 0 (Next.Number n next) → next ≤ longest_number
 front-short seen n next tells =

@@ -28,7 +28,8 @@ pub fn fill(rt: &HostRuntime, space: &mut [u8], held: usize, wanted: usize) -> R
     Ok(end)
 }
 
-// Reads some bytes after those that the buffer has: how many, and 0 at the input's end.
+// Reads some bytes after those that the buffer has: how many; 0, as `read` says it, at the input's
+// end.
 pub fn read_more(rt: &HostRuntime, space: &mut [u8], held: usize) -> Result<usize, Failed>
     requires { held ≤ length space.old }
     ensures answer { Came held (length space.old) result }
