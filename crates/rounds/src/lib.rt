@@ -49,10 +49,10 @@ fn after_events(net: Net, observer: Observer, events: &[u8]) -> Observer
 fn after_event(net: Net, observer: Observer, event: u32) -> Observer
     ensures { result ≡ round net observer event }
 {
-    if let Ok(Verdict::Allow) = values::judge_event(net, observer, event) {
-        if let Ok(after) = values::record_event(net, observer, event) {
-            return after;
-        }
+    if let Ok(Verdict::Allow) = values::judge_event(net, observer, event)
+        && let Ok(after) = values::record_event(net, observer, event)
+    {
+        return after;
     }
     observer
 }
