@@ -43,7 +43,7 @@ OWN = r"\b(Passed|Wrote|WroteBoth|PlaceRead|Checked|Answer|Known|ValueRead|Entry
 ENUM = r"^ *(pub )?enum "
 CHAIN = r"[.](all|any|filter|contains|fill|copy_from_slice|copy_within)[(]"
 CONVERSION = r"\b(wide|wide_count|in_64_bits|magnitude)[(]"
-PRINT = r"\b(put|decimal|numbered|byte|bytes|size)[(]rt"
+PRINT = r"\b(put|decimal|numbered|byte|size)[(]rt"
 print(f"1  enums: {lines(ENUM)}; lines with a case of one of the shape of Option or Result: {lines(OWN)}")
 print(f"1  refusals by number: {lines('refusals::[A-Z_]+')} lines; kinds by number: {lines('^const [A-Z]+: u32 = [0-9]+;')}")
 print(f"1  structs with a flag beside values: {lines('^    pub (checked|passed): (Checked|Passed)')}")
