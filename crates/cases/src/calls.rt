@@ -1,4 +1,4 @@
-// A call of the observer, answered on bytes, and the first four on values in memory too.
+// A call of the observer, answered on bytes, and the first four and `Other` on values in memory too.
 use crate::call::Call;
 use crate::words::{judged, known, refused, written, written_both};
 use codec::Refusal;
