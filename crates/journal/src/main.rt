@@ -135,12 +135,11 @@ fn run(
             Stop::Short => {
                 let left = end - at;
                 streams::move_down(space, at, left);
-                let came = streams::read_more(rt, space, left)?;
-                if came == 0 {
+                let Some(came) = streams::read_more(rt, space, left)? else {
                     // the input has ended: the bytes that are left of it tell no number
                     let used = events::leave(left, out);
                     return streams::write_out(rt, out, used);
-                }
+                };
                 at = 0;
                 end = left + came;
             }

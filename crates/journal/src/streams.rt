@@ -1,7 +1,7 @@
 // Standard input and output. An interrupted call is tried again; any other failure is told on
 // standard error, and nothing is read or written after it.
 ghost use Rattle.std.specs.Prelude.{◌+◌, ◌≤◌, ◌≡◌, length, take, drop};
-ghost use Rattle.journal.specs.Streams.{Came, Holds};
+ghost use Rattle.journal.specs.Streams.{Moves, Came, Holds};
 
 use std::io::{Error, ErrorKind, Read, Write};
 
@@ -19,18 +19,16 @@ pub fn fill(rt: &HostRuntime, space: &mut [u8], held: usize, wanted: usize) -> R
     let mut end = held;
     // a while: a turn reads as many bytes as come
     while end < wanted {
-        let came = read_more(rt, space, end)?;
-        if came == 0 {
+        let Some(came) = read_more(rt, space, end)? else {
             return Ok(end);
-        }
+        };
         end += came;
     }
     Ok(end)
 }
 
-// Reads some bytes after those that the buffer has: how many; 0, as `read` says it, at the input's
-// end.
-pub fn read_more(rt: &HostRuntime, space: &mut [u8], held: usize) -> Result<usize, Failed>
+// Reads some bytes after those that the buffer has: how many; none at the input's end.
+pub fn read_more(rt: &HostRuntime, space: &mut [u8], held: usize) -> Result<Option<usize>, Failed>
     requires { held ≤ length space.old }
     ensures answer { Came held (length space.old) result }
     ensures kept { take held space.new ≡ take held space.old }
@@ -39,7 +37,8 @@ pub fn read_more(rt: &HostRuntime, space: &mut [u8], held: usize) -> Result<usiz
     for _ in 0..u64::MAX {
         let mut stdin = rt.stdin();
         match stdin.read(&mut space[held..]) {
-            Ok(came) => return Ok(came),
+            Ok(0) => return Ok(None),
+            Ok(came) => return Ok(Some(came)),
             Err(error) => failure(rt, "standard input", error)?,
         }
     }
@@ -55,17 +54,35 @@ pub fn write_out(rt: &HostRuntime, out: &[u8], used: usize) -> Result<(), Failed
         if used <= done {
             return Ok(());
         }
-        let mut stdout = rt.stdout();
-        match stdout.write(&out[done..used]) {
-            Ok(0) => {
-                let _ = eprintln!(rt; "journal: standard output takes nothing");
-                return Err(Failed);
-            }
-            Ok(count) => done += count,
-            Err(error) => failure(rt, "standard output", error)?,
+        if let Some(count) = write_once(rt, out, done, used)? {
+            done += count;
         }
     }
     Err(Failed)
+}
+
+// One call: how many bytes it moved; none if it was interrupted.
+fn write_once(
+    rt: &HostRuntime,
+    out: &[u8],
+    done: usize,
+    used: usize,
+) -> Result<Option<usize>, Failed>
+    requires { (done ≤ used) × (used ≤ length out.now) }
+    ensures { Moves done used result }
+{
+    let mut stdout = rt.stdout();
+    match stdout.write(&out[done..used]) {
+        Ok(0) => {
+            let _ = eprintln!(rt; "journal: standard output takes nothing");
+            Err(Failed)
+        }
+        Ok(count) => Ok(Some(count)),
+        Err(error) => {
+            failure(rt, "standard output", error)?;
+            Ok(None)
+        }
+    }
 }
 
 // A call that failed, by its error: it was interrupted, or that is told of the stream.
@@ -97,10 +114,9 @@ pub fn skip(rt: &HostRuntime, space: &mut [u8], count: usize) -> Result<bool, Fa
     let mut left = count;
     // a while: a turn drops as many bytes as come
     while 0 < left {
-        let came = read_more(rt, space, 0)?;
-        if came == 0 {
+        let Some(came) = read_more(rt, space, 0)? else {
             return Ok(false);
-        }
+        };
         left = left.saturating_sub(came);
     }
     Ok(true)
