@@ -70,3 +70,12 @@ impl Refusal {
         }
     }
 }
+
+// The number that callers are told, for an answer whose refusal may be any number.
+impl From<Refusal> for u32 {
+    ghost from_gives = { λ refusal n. n ≡ number refusal };
+
+    fn from(refusal: Refusal) -> u32 {
+        refusal.number()
+    }
+}
